@@ -1,0 +1,3 @@
+pub mod Words
+pub mod Octets
+pub mod Laws

@@ -1,0 +1,43 @@
+-- `tlv::head_at` meets its contract, at any place: a head or a value that does not fit is past the end. Assumes nothing.
+use borrow.Author.Needs.{needs}
+use native.Mathlib.Omega.{arith}
+use Rattle.tlv.specs.Laws.{head-past, head-whole}
+use Rattle.tlv.proofs.head_at.Statement.{statement}
+use Rattle.tlv.proofs.head_at.Tie as tie
+
+returns : tie.Need-returns
+returns c = head-past _ _ (omega arith)
+
+sub-left : tie.Need-sub-left
+sub-left c = search needs
+
+returns-2 : tie.Need-returns-2
+returns-2 c = head-past _ _ (omega arith)
+
+length-at-requires : tie.Need-length-at-requires
+length-at-requires c κs = search needs
+
+returns-3 : tie.Need-returns-3
+returns-3 c = head-past _ _ (omega arith)
+
+shared-slice-read-t8 : tie.Need-shared-slice-read-t8
+shared-slice-read-t8 c = search needs
+
+add-t5 : tie.Need-add-t5
+add-t5 c = search needs
+
+returns-4 : tie.Need-returns-4
+returns-4 c = head-whole _ _ (search needs) (omega arith)
+
+pub head-at-spec : {M : Type 1} → statement M
+head-at-spec =
+    tie.close
+    (tie.spec
+    returns
+    sub-left
+    returns-2
+    length-at-requires
+    returns-3
+    shared-slice-read-t8
+    add-t5
+    returns-4)

@@ -1,0 +1,104 @@
+-- 01, TLV layout: the DCBX TLV, the walk over its sub-TLVs, and refusals 3 to 8. Places count from 0 at the TLV's first octet.
+use Prim.Native.Nat.{ℕ, zero, suc, _+_, _*_, _/_, _%_, min}
+use mathlib.Core.Bool.{Bool, true, false, not, _&&_, _||_}
+use mathlib.Core.List.{List, [], _∷_, _++_}
+use lib.ListN.{length, take, drop}
+use Rattle.octets.specs.Words.{if_then_else_, _below_, _atmost_, _is_}
+use Rattle.octets.specs.Octets.{at, same}
+use Rattle.tlv.specs.declared.Refusal.the-variants.{NotDcbx, WrongLength, PastEnd, NoControl, ControlLength, ControlVersion}
+use Rattle.tlv.specs.declared.Head.{Head}
+use Rattle.tlv.specs.declared.Head.the-variants.{Past, SubTlv}
+use Rattle.tlv.specs.declared.Found.{Found}
+use Rattle.tlv.specs.declared.Contents.{Contents}
+use Rattle.tlv.specs.declared.Walk.{Walk}
+use Rattle.tlv.specs.declared.Frame.{Frame}
+use Rattle.tlv.specs.declared.Frame.the-variants.{Refused, Accepted}
+
+-- "OUI 00 1b 21, subtype 2"
+abbrev pub fixedOctets : List ℕ
+fixedOctets = 0 ∷ 27 ∷ 33 ∷ 2 ∷ []
+
+-- "Type and length fill two octets, high octet first: 7 bits type, 9 bits length."
+abbrev pub typeAt : List ℕ → ℕ → ℕ
+typeAt o i = at o i / 2
+
+abbrev pub lengthAt : List ℕ → ℕ → ℕ
+lengthAt o i = at o i % 2 * 256 + at o (i + 1)
+
+-- the two octets of a head
+abbrev pub head : ℕ → ℕ → List ℕ
+head type n = (type * 2 + n / 256) ∷ (n % 256) ∷ []
+
+-- "The TLV is type 127, OUI 00 1b 21, subtype 2, then sub-TLVs": what stands before sub-TLVs of n octets
+abbrev pub frameHead : ℕ → List ℕ
+frameHead n = head 127 (4 + n) ++ fixedOctets
+
+-- the sub-TLV whose head stands at a place: its type, and its value by start and length
+unfoldable pub headAt : List ℕ → ℕ → Head
+headAt o i =
+    if i + 2 + lengthAt o i atmost length o then SubTlv (typeAt o i) (i + 2) (lengthAt o i)
+    else Past
+
+-- how often a type came, two standing for "two or more", and the value of the last
+unfoldable pub foundAgain : Found → ℕ → ℕ → Found
+foundAgain x start n = record { count = min 2 (x .count + 1); start = start; length = n }
+
+-- "Any other type is skipped, and so is a feature sub-TLV of length 4 or more whose SubType is not 0."
+-- A sub-TLV shorter than 4 counts for its type (Outcome rules).
+unfoldable pub counts : List ℕ → ℕ → ℕ → Bool
+counts o start n = n below 4 || at o (start + 3) is 0
+
+unfoldable pub noted : List ℕ → Contents → ℕ → ℕ → ℕ → Contents
+noted o c type start n =
+    if type is 1 then record { control = foundAgain (c .control) start n; groups = c .groups; flow = c .flow; applications = c .applications }
+    else if not (counts o start n) then c
+    else if type is 2 then record { control = c .control; groups = foundAgain (c .groups) start n; flow = c .flow; applications = c .applications }
+    else if type is 3 then record { control = c .control; groups = c .groups; flow = foundAgain (c .flow) start n; applications = c .applications }
+    else if type is 4 then record { control = c .control; groups = c .groups; flow = c .flow; applications = foundAgain (c .applications) start n }
+    else c
+
+abbrev pub nothingFound : Found
+nothingFound = record { count = 0; start = 0; length = 0 }
+
+abbrev pub noContents : Contents
+noContents = record { control = nothingFound; groups = nothingFound; flow = nothingFound; applications = nothingFound }
+
+-- the walk from head to head; each takes two octets or more, so the length is steps enough
+unfoldable pub onward : List ℕ → Head → Contents → (ℕ → Contents → Walk) → Walk
+onward o Past c next = record { past = true; contents = c }
+onward o (SubTlv type start n) c next = next (start + n) (noted o c type start n)
+
+unfoldable pub walkFrom : ℕ → List ℕ → ℕ → Contents → Walk
+walkFrom zero o i c = record { past = false; contents = c }
+walkFrom (suc k) o i c =
+    if i below length o then onward o (headAt o i) c (λ j d. walkFrom k o j d)
+    else record { past = false; contents = c }
+
+unfoldable pub walked : List ℕ → Walk
+walked o = walkFrom (length o) o 6 noContents
+
+-- the octets of a value that was found
+abbrev pub valueOf : List ℕ → Found → List ℕ
+valueOf o x = take (x .length) (drop (x .start) o)
+
+-- 01, Refusal numbers 3 to 8
+-- 3: "fewer than 6 octets, type not 127, or OUI or subtype differs"
+unfoldable pub isDcbx : List ℕ → Bool
+isDcbx o = 6 atmost length o && typeAt o 0 is 127 && same (take 4 (drop 2 o)) fixedOctets
+
+-- 6: "no control sub-TLV"; 7: "exactly one control, length not 10"; 8: "its Oper is above its Max"
+unfoldable pub judgedControl : List ℕ → Contents → Frame
+judgedControl o c =
+    if c .control .count is 0 then Refused NoControl
+    else if 1 below c .control .count then Accepted c
+    else if not (c .control .length is 10) then Refused ControlLength
+    else if at o (c .control .start + 1) below at o (c .control .start) then Refused ControlVersion
+    else Accepted c
+
+-- 4: "length field is not the octets after the head"; 5: "a sub-TLV, or its head, runs past the end"
+unfoldable pub readFrame : List ℕ → Frame
+readFrame o =
+    if not (isDcbx o) then Refused NotDcbx
+    else if not (lengthAt o 0 + 2 is length o) then Refused WrongLength
+    else if walked o .past then Refused PastEnd
+    else judgedControl o (walked o .contents)

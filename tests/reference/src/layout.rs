@@ -1,0 +1,374 @@
+//! TLV layout: reading a frame, the three kinds of parameters, and their octets.
+
+use crate::refusal;
+
+/// TLV type of an organisation's own TLV.
+pub const TLV_TYPE: u8 = 127;
+pub const OUI: [u8; 3] = [0x00, 0x1b, 0x21];
+pub const SUBTYPE: u8 = 2;
+
+pub const CONTROL: u8 = 1;
+pub const PRIORITY_GROUPS: u8 = 2;
+pub const FLOW_CONTROL: u8 = 3;
+pub const APPLICATIONS: u8 = 4;
+
+pub const ENABLE: u8 = 0x80;
+pub const WILLING: u8 = 0x40;
+pub const ERROR: u8 = 0x20;
+
+pub const CONTROL_LENGTH: usize = 10;
+/// Octets of a feature sub-TLV that stand before its parameters.
+pub const FEATURE_HEAD: usize = 4;
+pub const MOST_ENTRIES: usize = 16;
+pub const LONGEST_FRAME: usize = 147;
+
+/// Type and length in two octets: 7 bits and 9 bits.
+#[inline]
+pub fn head(kind: u8, length: usize) -> [u8; 2] {
+    ((u16::from(kind) << 9) | (length as u16 & 0x1ff)).to_be_bytes()
+}
+
+#[inline]
+fn parse_head(octets: [u8; 2]) -> (u8, usize) {
+    let head = u16::from_be_bytes(octets);
+    ((head >> 9) as u8, usize::from(head & 0x1ff))
+}
+
+#[inline]
+fn number(octets: &[u8]) -> u32 {
+    u32::from_be_bytes([octets[0], octets[1], octets[2], octets[3]])
+}
+
+/// One sub-TLV: its type and the octets behind its head.
+#[derive(Clone, Copy, Debug, PartialEq, Eq)]
+pub struct SubTlv<'a> {
+    pub kind: u8,
+    pub body: &'a [u8],
+}
+
+/// Hands out sub-TLVs one at a time over the caller's own octets.
+#[derive(Clone, Debug)]
+pub struct SubTlvs<'a> {
+    rest: &'a [u8],
+}
+
+impl<'a> SubTlvs<'a> {
+    /// Checks the head of the whole TLV (refusals 3 and 4).
+    #[inline]
+    pub fn of(octets: &'a [u8]) -> Result<Self, u8> {
+        if octets.len() < 6 {
+            return Err(refusal::NOT_DCBX);
+        }
+        let (kind, length) = parse_head([octets[0], octets[1]]);
+        if kind != TLV_TYPE || octets[2..5] != OUI || octets[5] != SUBTYPE {
+            return Err(refusal::NOT_DCBX);
+        }
+        if length != octets.len() - 2 {
+            return Err(refusal::LENGTH_FIELD);
+        }
+        Ok(SubTlvs { rest: &octets[6..] })
+    }
+
+    /// The next sub-TLV, none at the end, or refusal 5.
+    #[inline]
+    pub fn hand_out(&mut self) -> Result<Option<SubTlv<'a>>, u8> {
+        match *self.rest {
+            [] => Ok(None),
+            [first, second, ref behind @ ..] => {
+                let (kind, length) = parse_head([first, second]);
+                if length > behind.len() {
+                    return Err(refusal::PAST_THE_END);
+                }
+                let (body, rest) = behind.split_at(length);
+                self.rest = rest;
+                Ok(Some(SubTlv { kind, body }))
+            }
+            [_] => Err(refusal::PAST_THE_END),
+        }
+    }
+}
+
+/// The contents of a control sub-TLV.
+#[derive(Clone, Copy, Debug, PartialEq, Eq)]
+pub struct ReceivedControl {
+    pub oper: u8,
+    pub max: u8,
+    pub seqno: u32,
+    pub ackno: u32,
+}
+
+#[derive(Clone, Copy, Debug, PartialEq, Eq)]
+pub enum Controls {
+    One(ReceivedControl),
+    Several,
+}
+
+/// How often a feature's sub-TLV came, with its octets if once.
+#[derive(Clone, Copy, Debug, PartialEq, Eq)]
+pub enum Found<'a> {
+    Absent,
+    Once(&'a [u8]),
+    Several,
+}
+
+/// A frame that no refusal from 3 to 8 keeps out.
+#[derive(Clone, Copy, Debug, PartialEq, Eq)]
+pub struct Frame<'a> {
+    pub controls: Controls,
+    pub groups: Found<'a>,
+    pub flow: Found<'a>,
+    pub applications: Found<'a>,
+}
+
+/// Reads a whole frame, or gives the lowest of refusals 3 to 8.
+pub fn read(octets: &[u8]) -> Result<Frame<'_>, u8> {
+    let mut sub_tlvs = SubTlvs::of(octets)?;
+    // Counted by type; place 0 stays unused.
+    let mut found = [Found::Absent; 5];
+    while let Some(SubTlv { kind, body }) = sub_tlvs.hand_out()? {
+        let counts = match kind {
+            CONTROL => true,
+            // A SubType other than 0 makes it another feature.
+            PRIORITY_GROUPS..=APPLICATIONS => body.len() < FEATURE_HEAD || body[3] == 0,
+            _ => false,
+        };
+        if counts {
+            let place = &mut found[usize::from(kind)];
+            *place = match *place {
+                Found::Absent => Found::Once(body),
+                _ => Found::Several,
+            };
+        }
+    }
+    let [_, control, groups, flow, applications] = found;
+    let controls = match control {
+        Found::Absent => return Err(refusal::NO_CONTROL),
+        Found::Several => Controls::Several,
+        Found::Once(body) => {
+            if body.len() != CONTROL_LENGTH {
+                return Err(refusal::CONTROL_LENGTH);
+            }
+            let control = ReceivedControl {
+                oper: body[0],
+                max: body[1],
+                seqno: number(&body[2..6]),
+                ackno: number(&body[6..10]),
+            };
+            if control.oper > control.max {
+                return Err(refusal::CONTROL_VERSIONS);
+            }
+            Controls::One(control)
+        }
+    };
+    Ok(Frame {
+        controls,
+        groups,
+        flow,
+        applications,
+    })
+}
+
+/// A feature's whole parameters, as read from the octets behind the first four
+/// of its sub-TLV.
+pub trait Parameters: Copy + PartialEq {
+    /// Feature number, also the type of the sub-TLV.
+    const FEATURE: u8;
+    /// None for a wrong length or invalid values.
+    fn read(octets: &[u8]) -> Option<Self>;
+    /// What a local setting must hold beyond the layout rules.
+    fn local(&self) -> bool;
+    fn compatible(&self, other: &Self) -> bool;
+    /// How many octets `write` fills.
+    fn length(&self) -> usize;
+    fn write(&self, out: &mut [u8]);
+}
+
+/// Priority groups: a group for each priority, a percentage for each group.
+#[derive(Clone, Copy, Debug, PartialEq, Eq)]
+pub struct Groups {
+    pub group: [u8; 8],
+    pub percentage: [u8; 8],
+    pub classes: u8,
+}
+
+impl Parameters for Groups {
+    const FEATURE: u8 = PRIORITY_GROUPS;
+
+    #[inline]
+    fn read(octets: &[u8]) -> Option<Self> {
+        let octets: &[u8; 13] = octets.try_into().ok()?;
+        let mut group = [0; 8];
+        for (pair, octet) in group.chunks_exact_mut(2).zip(octets) {
+            pair[0] = octet >> 4;
+            pair[1] = octet & 0x0f;
+        }
+        let mut percentage = [0; 8];
+        percentage.copy_from_slice(&octets[4..12]);
+        let classes = octets[12];
+        let sum: u32 = percentage.iter().map(|&p| u32::from(p)).sum();
+        let good = group.iter().all(|&g| g <= 7 || g == 15) && sum == 100 && classes <= 8;
+        good.then_some(Groups {
+            group,
+            percentage,
+            classes,
+        })
+    }
+
+    fn local(&self) -> bool {
+        true
+    }
+
+    fn compatible(&self, other: &Self) -> bool {
+        self.group == other.group && self.percentage == other.percentage
+    }
+
+    fn length(&self) -> usize {
+        13
+    }
+
+    #[inline]
+    fn write(&self, out: &mut [u8]) {
+        for (octet, pair) in out.iter_mut().zip(self.group.chunks_exact(2)) {
+            *octet = pair[0] << 4 | pair[1];
+        }
+        out[4..12].copy_from_slice(&self.percentage);
+        out[12] = self.classes;
+    }
+}
+
+/// Flow control: a mask with bit p for priority p.
+#[derive(Clone, Copy, Debug, PartialEq, Eq)]
+pub struct FlowControl {
+    pub mask: u8,
+    pub classes: u8,
+}
+
+impl Parameters for FlowControl {
+    const FEATURE: u8 = FLOW_CONTROL;
+
+    #[inline]
+    fn read(octets: &[u8]) -> Option<Self> {
+        match *octets {
+            [mask, classes] if classes <= 8 => Some(FlowControl { mask, classes }),
+            _ => None,
+        }
+    }
+
+    fn local(&self) -> bool {
+        self.mask.count_ones() <= u32::from(self.classes)
+    }
+
+    fn compatible(&self, other: &Self) -> bool {
+        self.mask == other.mask
+    }
+
+    fn length(&self) -> usize {
+        2
+    }
+
+    #[inline]
+    fn write(&self, out: &mut [u8]) {
+        out.copy_from_slice(&[self.mask, self.classes]);
+    }
+}
+
+/// One application: selector and id name it, the map gives its priorities.
+#[derive(Clone, Copy, Debug, Default, PartialEq, Eq)]
+pub struct Entry {
+    pub id: u16,
+    pub selector: u8,
+    pub map: u8,
+}
+
+impl Entry {
+    #[inline]
+    fn names_as(&self, other: &Entry) -> bool {
+        self.id == other.id && self.selector == other.selector
+    }
+}
+
+/// Up to 16 applications. What stands past the count means nothing.
+#[derive(Clone, Copy, Debug)]
+pub struct Applications {
+    entry: [Entry; MOST_ENTRIES],
+    count: u8,
+}
+
+impl Applications {
+    #[inline]
+    pub fn entries(&self) -> &[Entry] {
+        &self.entry[..usize::from(self.count)]
+    }
+}
+
+impl PartialEq for Applications {
+    fn eq(&self, other: &Self) -> bool {
+        self.entries() == other.entries()
+    }
+}
+
+impl Eq for Applications {}
+
+impl Parameters for Applications {
+    const FEATURE: u8 = APPLICATIONS;
+
+    #[inline]
+    fn read(octets: &[u8]) -> Option<Self> {
+        if !octets.len().is_multiple_of(6) || octets.len() > 6 * MOST_ENTRIES {
+            return None;
+        }
+        let mut entry = [Entry::default(); MOST_ENTRIES];
+        let mut count = 0;
+        for octets in octets.chunks_exact(6) {
+            // The OUI bits and octets are not looked at.
+            let next = Entry {
+                id: u16::from_be_bytes([octets[0], octets[1]]),
+                selector: octets[2] & 0x03,
+                map: octets[5],
+            };
+            if entry[..count].iter().any(|earlier| earlier.names_as(&next)) {
+                return None;
+            }
+            entry[count] = next;
+            count += 1;
+        }
+        Some(Applications {
+            entry,
+            count: count as u8,
+        })
+    }
+
+    fn local(&self) -> bool {
+        self.entries().iter().all(|e| e.selector <= 1)
+    }
+
+    fn compatible(&self, other: &Self) -> bool {
+        for ours in self.entries() {
+            for theirs in other.entries() {
+                if ours.names_as(theirs) && ours.map != theirs.map {
+                    return false;
+                }
+            }
+        }
+        true
+    }
+
+    fn length(&self) -> usize {
+        6 * usize::from(self.count)
+    }
+
+    #[inline]
+    fn write(&self, out: &mut [u8]) {
+        for (octets, entry) in out.chunks_exact_mut(6).zip(self.entries()) {
+            let [high, low] = entry.id.to_be_bytes();
+            octets.copy_from_slice(&[
+                high,
+                low,
+                OUI[0] | entry.selector,
+                OUI[1],
+                OUI[2],
+                entry.map,
+            ]);
+        }
+    }
+}

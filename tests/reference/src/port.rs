@@ -1,0 +1,406 @@
+//! Port events and handling a frame.
+
+use crate::layout::{
+    self, Applications, Controls, FlowControl, Frame, Groups, Parameters, ReceivedControl,
+    APPLICATIONS, CONTROL, CONTROL_LENGTH, FLOW_CONTROL, OUI, PRIORITY_GROUPS, SUBTYPE, TLV_TYPE,
+};
+use crate::log::{self, Log};
+use crate::outcome::{Feature, Reason, Shown};
+use crate::refusal;
+use crate::settings::{FeatureSetting, Setting, Settings};
+
+/// The control machine.
+#[derive(Clone, Copy, Debug, PartialEq, Eq)]
+pub struct ControlState {
+    pub oper: u8,
+    pub max: u8,
+    pub seqno: u32,
+    pub ackno: u32,
+    pub rcvdackno: u32,
+    pub peer_seen: bool,
+    pub duplicate_control: bool,
+}
+
+/// The port's four flags.
+#[derive(Clone, Copy, Debug, PartialEq, Eq)]
+pub struct Flags {
+    pub enabled: bool,
+    pub receive: bool,
+    pub transmit: bool,
+    pub several_neighbours: bool,
+}
+
+#[derive(Clone, Copy, Debug, PartialEq, Eq)]
+pub enum Flag {
+    Enabled,
+    Receive,
+    Transmit,
+    SeveralNeighbours,
+}
+
+impl Flag {
+    pub const ALL: [Flag; 4] = [
+        Flag::Enabled,
+        Flag::Receive,
+        Flag::Transmit,
+        Flag::SeveralNeighbours,
+    ];
+}
+
+/// The engine of one port.
+#[derive(Clone, Debug)]
+pub struct Card {
+    control: ControlState,
+    flags: Flags,
+    groups: Feature<Groups>,
+    flow: Feature<FlowControl>,
+    applications: Feature<Applications>,
+    log: Log,
+}
+
+/// What of the written frame may change while the settings stay. Two of these
+/// are equal exactly if the octets to be written are, the settings being equal.
+#[derive(Clone, Copy, PartialEq, Eq)]
+struct Written {
+    oper: u8,
+    seqno: u32,
+    ackno: u32,
+    shown: [Shown; 3],
+}
+
+impl Card {
+    /// A running port in its fresh state. Creation always asks for a send.
+    pub fn create(settings: &Settings) -> Result<Card, u8> {
+        let read = settings.read()?;
+        let mut card = Card {
+            control: ControlState {
+                oper: settings.control_max,
+                max: settings.control_max,
+                seqno: 0,
+                ackno: 0,
+                rcvdackno: 0,
+                peer_seen: false,
+                duplicate_control: false,
+            },
+            flags: Flags {
+                enabled: true,
+                receive: true,
+                transmit: true,
+                several_neighbours: false,
+            },
+            groups: Feature::new(settings.groups.0, read.groups),
+            flow: Feature::new(settings.flow.0, read.flow),
+            applications: Feature::new(settings.applications.0, read.applications),
+            log: Log::default(),
+        };
+        card.fresh();
+        Ok(card)
+    }
+
+    /// A frame arrived. The answer says whether to send.
+    pub fn frame(&mut self, octets: &[u8]) -> Result<bool, u8> {
+        if !self.running() {
+            return Err(refusal::NOT_RUNNING);
+        }
+        if self.flags.several_neighbours {
+            return Err(refusal::SEVERAL_NEIGHBOURS);
+        }
+        let frame = layout::read(octets)?;
+        let before = self.written();
+        let reasons = self.reasons();
+        match &frame.controls {
+            Controls::Several => self.control_twice(),
+            Controls::One(control) => self.one_control(control, &frame),
+        }
+        self.step_5(&before.shown);
+        self.feature_notices(reasons);
+        Ok(before != self.written())
+    }
+
+    /// Timer expired, shutdown, or an LLDPDU with no DCBX TLV.
+    pub fn peer_gone(&mut self) -> Result<bool, u8> {
+        if !self.running() {
+            return Err(refusal::NOT_RUNNING);
+        }
+        let before = self.written();
+        if self.control.peer_seen {
+            self.log.write(log::PEER_GONE, 0);
+        }
+        self.fresh();
+        Ok(before != self.written())
+    }
+
+    /// Sets one flag. Never refused; the answer says whether to send.
+    pub fn set_flag(&mut self, flag: Flag, on: bool) -> bool {
+        let before = self.octets_to_be_written();
+        let place = match flag {
+            Flag::Enabled => &mut self.flags.enabled,
+            Flag::Receive => &mut self.flags.receive,
+            Flag::Transmit => &mut self.flags.transmit,
+            Flag::SeveralNeighbours => &mut self.flags.several_neighbours,
+        };
+        if *place == on {
+            return false;
+        }
+        *place = on;
+        match (flag, on) {
+            (Flag::SeveralNeighbours, true) => self.log.write(log::SEVERAL_NEIGHBOURS, 0),
+            (Flag::Transmit, false) => self.log.write(log::TRANSMIT_OFF, 0),
+            (Flag::Receive, false) => self.log.write(log::RECEIVE_OFF, 0),
+            _ => {}
+        }
+        let several_on = flag == Flag::SeveralNeighbours && on;
+        if several_on || before.is_some() != self.running() {
+            self.fresh();
+        }
+        before != self.octets_to_be_written()
+    }
+
+    /// Changes one feature's setting. The answer says whether to send.
+    pub fn change(
+        &mut self,
+        feature: u8,
+        advertise: bool,
+        enable: bool,
+        willing: bool,
+        parameters: &[u8],
+    ) -> Result<bool, u8> {
+        let setting = Setting {
+            advertise,
+            enable,
+            willing,
+            parameters,
+        };
+        let running = self.running();
+        let reasons = self.reasons();
+        let seqno = self.control.seqno;
+        let changed = match feature {
+            PRIORITY_GROUPS => change_one(&mut self.groups, &setting, running, seqno)?,
+            FLOW_CONTROL => change_one(&mut self.flow, &setting, running, seqno)?,
+            APPLICATIONS => change_one(&mut self.applications, &setting, running, seqno)?,
+            _ => return Err(refusal::NO_SUCH_FEATURE),
+        };
+        let Some(wish) = changed else {
+            return Ok(false);
+        };
+        if running {
+            self.send_rule();
+            self.feature_notices(reasons);
+        }
+        Ok(wish || seqno != self.control.seqno)
+    }
+
+    /// Writes the frame and gives its length. Changes only the frame's octets.
+    pub fn write(&self, out: &mut [u8]) -> Result<usize, u8> {
+        if !self.running() {
+            return Err(refusal::NOT_RUNNING);
+        }
+        let length = 6
+            + 2
+            + CONTROL_LENGTH
+            + self.groups.written_length()
+            + self.flow.written_length()
+            + self.applications.written_length();
+        let Some(out) = out.get_mut(..length) else {
+            return Err(refusal::SHORT_OUTPUT);
+        };
+        let (start, behind) = out.split_at_mut(6 + 2 + CONTROL_LENGTH);
+        start[..2].copy_from_slice(&layout::head(TLV_TYPE, length - 2));
+        start[2..5].copy_from_slice(&OUI);
+        start[5] = SUBTYPE;
+        start[6..8].copy_from_slice(&layout::head(CONTROL, CONTROL_LENGTH));
+        start[8] = self.control.oper;
+        start[9] = self.control.max;
+        start[10..14].copy_from_slice(&self.control.seqno.to_be_bytes());
+        start[14..18].copy_from_slice(&self.control.ackno.to_be_bytes());
+        let behind = self.groups.write(behind);
+        let behind = self.flow.write(behind);
+        self.applications.write(behind);
+        Ok(length)
+    }
+
+    /// Takes the oldest notice: its number and its feature.
+    pub fn take(&mut self) -> Result<(u8, u8), u8> {
+        self.log.take()
+    }
+
+    pub fn running(&self) -> bool {
+        self.flags.enabled && self.flags.receive && self.flags.transmit
+    }
+
+    pub fn control(&self) -> &ControlState {
+        &self.control
+    }
+
+    pub fn flags(&self) -> &Flags {
+        &self.flags
+    }
+
+    pub fn groups(&self) -> &Feature<Groups> {
+        &self.groups
+    }
+
+    pub fn flow(&self) -> &Feature<FlowControl> {
+        &self.flow
+    }
+
+    pub fn applications(&self) -> &Feature<Applications> {
+        &self.applications
+    }
+
+    pub fn log(&self) -> &Log {
+        &self.log
+    }
+
+    /// For tests of the wrap only: sets the numbers directly. FeatureSeqNo in
+    /// the order of features 2, 3, 4; nothing else changes.
+    pub fn set_numbers(&mut self, seqno: u32, ackno: u32, rcvdackno: u32, featureseqno: [u32; 3]) {
+        self.control.seqno = seqno;
+        self.control.ackno = ackno;
+        self.control.rcvdackno = rcvdackno;
+        [
+            self.groups.featureseqno,
+            self.flow.featureseqno,
+            self.applications.featureseqno,
+        ] = featureseqno;
+    }
+
+    /// For tests of the wrap only: sets the dropped count.
+    pub fn set_dropped(&mut self, dropped: u32) {
+        self.log.set_dropped(dropped);
+    }
+
+    /// The fresh state of the present settings, with the send rule if running.
+    /// Flags, highest versions and the log stay.
+    fn fresh(&mut self) {
+        let running = self.running();
+        self.control = ControlState {
+            oper: self.control.max,
+            max: self.control.max,
+            seqno: 0,
+            ackno: 0,
+            rcvdackno: 0,
+            peer_seen: false,
+            duplicate_control: false,
+        };
+        self.groups.fresh(running);
+        self.flow.fresh(running);
+        self.applications.fresh(running);
+        if running {
+            self.send_rule();
+        }
+    }
+
+    fn send_rule(&mut self) {
+        let pending = self.groups.pending() || self.flow.pending() || self.applications.pending();
+        if pending && self.control.rcvdackno == self.control.seqno {
+            self.control.seqno = self.control.seqno.wrapping_add(1);
+        }
+    }
+
+    /// Step 1. Numbers and versions stay.
+    fn control_twice(&mut self) {
+        self.control.peer_seen = true;
+        if !self.control.duplicate_control {
+            self.control.duplicate_control = true;
+            self.log.write(log::DUPLICATE_CONTROL, 0);
+        }
+        self.groups.control_twice();
+        self.flow.control_twice();
+        self.applications.control_twice();
+    }
+
+    /// Steps 2 to 4.
+    fn one_control(&mut self, received: &ReceivedControl, frame: &Frame) {
+        let control = &mut self.control;
+        control.peer_seen = true;
+        control.duplicate_control = false;
+        control.oper = control.max.min(received.max);
+        if received.oper != control.oper {
+            return;
+        }
+        control.rcvdackno = received.ackno;
+        self.groups.acknowledge(control.rcvdackno, control.seqno);
+        self.flow.acknowledge(control.rcvdackno, control.seqno);
+        self.applications
+            .acknowledge(control.rcvdackno, control.seqno);
+        control.ackno = received.seqno;
+        self.groups.receive(frame.groups);
+        self.flow.receive(frame.flow);
+        self.applications.receive(frame.applications);
+    }
+
+    /// Step 5 after a frame: the settings stayed, so only Oper and Error count.
+    fn step_5(&mut self, before: &[Shown; 3]) {
+        let seqno = self.control.seqno;
+        if self.groups.shown() != before[0] {
+            self.groups.changed(seqno);
+        }
+        if self.flow.shown() != before[1] {
+            self.flow.changed(seqno);
+        }
+        if self.applications.shown() != before[2] {
+            self.applications.changed(seqno);
+        }
+        self.send_rule();
+    }
+
+    /// A notice for each feature whose reason became one that has a notice.
+    fn feature_notices(&mut self, before: [Reason; 3]) {
+        for (i, (before, after)) in before.into_iter().zip(self.reasons()).enumerate() {
+            if before != after {
+                if let Some(number) = after.notice() {
+                    self.log.write(number, PRIORITY_GROUPS + i as u8);
+                }
+            }
+        }
+    }
+
+    #[inline]
+    fn reasons(&self) -> [Reason; 3] {
+        [
+            self.groups.reason,
+            self.flow.reason,
+            self.applications.reason,
+        ]
+    }
+
+    #[inline]
+    fn written(&self) -> Written {
+        Written {
+            oper: self.control.oper,
+            seqno: self.control.seqno,
+            ackno: self.control.ackno,
+            shown: [
+                self.groups.shown(),
+                self.flow.shown(),
+                self.applications.shown(),
+            ],
+        }
+    }
+
+    /// None for a stopped port.
+    fn octets_to_be_written(&self) -> Option<Written> {
+        self.running().then(|| self.written())
+    }
+}
+
+/// None if the setting is equal to the present one, else whether the octets to
+/// be written changed.
+fn change_one<P: Parameters>(
+    feature: &mut Feature<P>,
+    setting: &Setting,
+    running: bool,
+    seqno: u32,
+) -> Result<Option<bool>, u8> {
+    let setting = FeatureSetting::read(setting)?;
+    if setting == feature.setting {
+        return Ok(None);
+    }
+    if running {
+        return Ok(Some(feature.change(setting, seqno)));
+    }
+    feature.setting = setting;
+    feature.fresh(false);
+    Ok(Some(false))
+}

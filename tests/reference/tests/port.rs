@@ -1,0 +1,260 @@
+//! Fresh state, running, flags, the send rule and the steps of a frame.
+
+mod common;
+use common::*;
+use reference::{Card, Flag, Reason, View};
+
+/// The fresh state of one feature, as document 01 lists it.
+fn fresh(view: &View, running: bool) {
+    assert_eq!(view.oper, view.max);
+    assert!(view.peer.is_none() && !view.error);
+    assert_eq!(view.opercfg, view.parameters);
+    assert_eq!(view.featureseqno, 1);
+    assert_eq!(view.syncd, !view.advertise);
+    if view.advertise {
+        assert_eq!((view.reason, view.mode), (Reason::NoPeerYet, false));
+    } else {
+        assert_eq!(
+            (view.reason, view.mode),
+            (Reason::NotAdvertised, running && view.enable)
+        );
+    }
+}
+
+fn all_fresh(card: &Card) {
+    let running = card.running();
+    let control = card.control();
+    assert_eq!(control.oper, control.max);
+    let advertised = (2..=4).any(|n| card.feature(n).advertise);
+    assert_eq!(numbers(card), (u32::from(running && advertised), 0, 0));
+    assert!(!control.peer_seen && !control.duplicate_control);
+    (2..=4).for_each(|n| fresh(&card.feature(n), running));
+}
+
+/// Groups advertised, flow control not but enabled, applications neither.
+fn mixed() -> Card {
+    let mut settings = w2_settings();
+    settings.control_max = 7;
+    settings.feature[0].0 = 3;
+    settings.feature[1].0 = 255;
+    settings.feature[1].1.advertise = false;
+    settings.feature[2].1.advertise = false;
+    settings.feature[2].1.enable = false;
+    card(&settings)
+}
+
+#[test]
+fn fresh_states() {
+    for card in [w2_card(), mixed()] {
+        let flags = card.flags();
+        assert!(flags.enabled && flags.receive && flags.transmit && !flags.several_neighbours);
+        all_fresh(&card);
+        for flag in [Flag::Enabled, Flag::Receive, Flag::Transmit] {
+            let mut card = card.clone();
+            assert!(card.set_flag(flag, false), "stopping asks");
+            all_fresh(&card);
+            assert!(!card.set_flag(flag, false), "no change");
+            assert!(card.set_flag(flag, true), "starting asks");
+            all_fresh(&card);
+        }
+    }
+    assert!(mixed().feature(3).mode);
+}
+
+#[test]
+fn running_needs_all_three() {
+    let mut card = w2_card();
+    assert!(card.set_flag(Flag::Enabled, false));
+    let stopped = card.dump();
+    // Further flags of a stopped port do not ask.
+    assert!(!card.set_flag(Flag::Receive, false));
+    assert!(!card.set_flag(Flag::Transmit, false));
+    assert!(!card.set_flag(Flag::SeveralNeighbours, true));
+    all_fresh(&card);
+    assert!(!card.set_flag(Flag::SeveralNeighbours, false));
+    assert!(!card.set_flag(Flag::Enabled, true));
+    assert!(!card.set_flag(Flag::Receive, true));
+    all_fresh(&card);
+    assert!(card.set_flag(Flag::Transmit, true));
+    all_fresh(&card);
+    assert_eq!(notices(&mut card), [(5, 0), (4, 0), (3, 0)]);
+    assert!(card.set_flag(Flag::Enabled, false));
+    assert_eq!(card.dump(), stopped);
+}
+
+#[test]
+fn each_way_to_the_fresh_state() {
+    let ways: [fn(&mut Card) -> bool; 3] = [
+        |card| card.peer_gone().unwrap(),
+        |card| card.set_flag(Flag::SeveralNeighbours, true),
+        |card| card.set_flag(Flag::Receive, false) & card.set_flag(Flag::Receive, true),
+    ];
+    for way in ways {
+        let mut card = settled_card();
+        assert!(way(&mut card));
+        all_fresh(&card);
+    }
+    // The second peer gone changes no octet.
+    let mut card = settled_card();
+    assert_eq!(card.peer_gone(), Ok(true));
+    assert_eq!(card.peer_gone(), Ok(false));
+    // Clearing the several-neighbours flag changes only the flag.
+    let mut card = settled_card();
+    card.set_flag(Flag::SeveralNeighbours, true);
+    card.change(3, true, true, false, &[0x10, 8]).unwrap();
+    let mut before = card.dump();
+    assert!(!card.set_flag(Flag::SeveralNeighbours, false));
+    before[19] = 0;
+    assert_eq!(card.dump(), before);
+    // A fresh port flagged and cleared asks for nothing.
+    let mut card = w2_card();
+    assert!(!card.set_flag(Flag::SeveralNeighbours, true));
+    assert!(!card.set_flag(Flag::SeveralNeighbours, false));
+}
+
+#[test]
+fn the_present_settings_make_the_fresh_state() {
+    let mut card = settled_card();
+    card.change(3, true, true, true, &[0x30, 3]).unwrap();
+    card.change(2, false, true, true, &GROUPS).unwrap();
+    card.peer_gone().unwrap();
+    all_fresh(&card);
+    assert_eq!(card.feature(3).opercfg, [0x30, 3]);
+    assert!(card.feature(2).mode);
+}
+
+#[test]
+fn step_2_stops_at_another_oper() {
+    // Our Max 3; a peer of Max 2 that still runs 1.
+    let mut settings = w2_settings();
+    settings.control_max = 3;
+    let mut card = card(&settings);
+    let mut list = sub_tlvs(9, 1, 0x80);
+    list[0] = control(1, 2, 9, 1);
+    assert_eq!(card.frame(&frame(&list)), Ok(true));
+    assert_eq!(card.control().oper, 2);
+    assert!(card.control().peer_seen);
+    assert_eq!(numbers(&card), (1, 0, 0));
+    assert_eq!(reasons(&card), [Reason::NoPeerYet; 3]);
+    // Now it runs 2.
+    list[0] = control(2, 2, 9, 1);
+    assert_eq!(card.frame(&frame(&list)), Ok(true));
+    assert_eq!(numbers(&card), (1, 9, 1));
+    assert_eq!(reasons(&card), [Reason::Agreed; 3]);
+    // The lower of the two Max, not of our Oper: up to 3 again.
+    list[0] = control(3, 3, 9, 1);
+    assert_eq!(card.frame(&frame(&list)), Ok(true));
+    assert_eq!(card.control().oper, 3);
+    // Held peers stay when a later frame stops at step 2.
+    list = vec![control(0, 4, 77, 77)];
+    assert_eq!(card.frame(&frame(&list)), Ok(false));
+    assert_eq!(numbers(&card), (1, 9, 1));
+    assert_eq!(reasons(&card), [Reason::Agreed; 3]);
+    assert!(card.feature(2).peer.is_some());
+}
+
+#[test]
+fn versions_change_the_sub_tlv_and_so_seqno() {
+    // Our flow control Max 1, the peer's 0.
+    let mut settings = w2_settings();
+    settings.feature[1].0 = 1;
+    let mut card = card(&settings);
+    card.frame(&frame(&sub_tlvs(1, 1, 0x80))).unwrap();
+    let flow = card.feature(3);
+    assert_eq!((flow.oper, flow.featureseqno, flow.syncd), (0, 2, false));
+    assert!(card.feature(2).syncd && card.feature(4).syncd);
+    // Acknowledged at once, so SeqNo went up in the same event.
+    assert_eq!(numbers(&card), (2, 1, 1));
+}
+
+#[test]
+fn acknowledgements() {
+    // Right, stale, too high; the peer's SeqNo is always taken.
+    for (ackno, syncd) in [(1, true), (0, false), (2, false), (u32::MAX, false)] {
+        let card = after(&sub_tlvs(5, ackno, 0x80));
+        assert!((2..=4).all(|n| card.feature(n).syncd == syncd));
+        assert_eq!(numbers(&card), (1, 5, ackno));
+    }
+    // It may also go down.
+    let mut card = after(&sub_tlvs(5, 1, 0x80));
+    card.frame(&frame(&sub_tlvs(2, 1, 0x80))).unwrap();
+    assert_eq!(numbers(&card), (1, 2, 1));
+    // Once Syncd, a stale one does not undo it.
+    let mut card = settled_card();
+    assert_eq!(card.frame(&frame(&sub_tlvs(1, 0, 0x80))), Ok(false));
+    assert!((2..=4).all(|n| card.feature(n).syncd));
+    assert_eq!(numbers(&card), (1, 1, 0));
+    // A change now waits for the acknowledgement of 1.
+    assert_eq!(card.change(3, true, true, true, &FLOW), Ok(true));
+    assert_eq!(numbers(&card), (1, 1, 0));
+    assert_eq!(card.frame(&frame(&sub_tlvs(1, 1, 0x80))), Ok(true));
+    assert_eq!(numbers(&card), (2, 1, 1));
+}
+
+#[test]
+fn the_wish_to_send() {
+    // AckNo alone asks.
+    let mut card = settled_card();
+    assert_eq!(card.frame(&frame(&sub_tlvs(2, 1, 0x80))), Ok(true));
+    assert_eq!(card.frame(&frame(&sub_tlvs(2, 1, 0x80))), Ok(false));
+    // The peer's error flag changes the mode but no octet.
+    assert_eq!(card.frame(&frame(&sub_tlvs(2, 1, 0xa0))), Ok(false));
+    assert!((2..=4).all(|n| !card.feature(n).mode));
+    // Error changes octets.
+    let mut list = sub_tlvs(2, 1, 0x80);
+    list.pop();
+    list.push(feature(4, 0, 0, 0x80, &other_parameters(4)));
+    assert_eq!(card.frame(&frame(&list)), Ok(true));
+    assert_eq!(written(&card).unwrap()[49], 0xa0);
+}
+
+#[test]
+fn control_twice_and_once_again() {
+    let mut card = settled_card();
+    let mut twice = sub_tlvs(8, 8, 0x80);
+    twice.insert(0, (1, vec![]));
+    assert_eq!(card.frame(&frame(&twice)), Ok(true));
+    assert!(card.control().duplicate_control);
+    assert_eq!(numbers(&card), (2, 1, 1));
+    // Again: nothing more.
+    assert_eq!(card.frame(&frame(&twice)), Ok(false));
+    // One control of another Oper unmarks; reasons stay.
+    assert_eq!(card.frame(&frame(&vec![control(1, 1, 8, 8)])), Ok(false));
+    assert!(!card.control().duplicate_control);
+    assert_eq!(reasons(&card), [Reason::ControlTwice; 3]);
+    card.frame(&frame(&sub_tlvs(1, 2, 0x80))).unwrap();
+    assert_eq!(reasons(&card), [Reason::Agreed; 3]);
+    // Error went away: changed again. 2 was acknowledged first, so 3.
+    assert_eq!(numbers(&card), (3, 1, 2));
+    assert!((2..=4).all(|n| !card.feature(n).syncd && card.feature(n).featureseqno == 3));
+    // A fresh port has its peer seen by two controls too.
+    let mut card = w2_card();
+    card.frame(&frame(&twice)).unwrap();
+    assert!(card.control().peer_seen);
+    // Features that are not advertised stay as they are.
+    let mut card = mixed();
+    let (flow, applications) = (card.feature(3), card.feature(4));
+    card.frame(&frame(&twice)).unwrap();
+    assert_eq!(card.feature(2).reason, Reason::ControlTwice);
+    assert_eq!((card.feature(3), card.feature(4)), (flow, applications));
+}
+
+#[test]
+fn written_frames() {
+    // Ascending types, only the advertised, entries in setting order.
+    let mut settings = w2_settings();
+    settings.control_max = 9;
+    settings.feature[0].1.advertise = false;
+    settings.feature[1].0 = 4;
+    settings.feature[1].1.willing = true;
+    settings.feature[2].1.enable = false;
+    // The setting's OUI bits and octets are not looked at.
+    settings.feature[2].1.parameters = hex("89 14 fd aa bb 08 89 06 00 1b 21 10");
+    let expected = hex("fe 2a 00 1b 21 02 02 0a 09 09 00 00 00 01 00 00 00 00 \
+         06 06 04 04 c0 00 08 08 08 10 00 00 00 00 89 14 01 1b 21 08 89 06 00 1b 21 10");
+    assert_eq!(written(&card(&settings)).unwrap(), expected);
+    // The longest.
+    let mut settings = w2_settings();
+    settings.feature[2].1.parameters = (0..16).flat_map(|i| [0, i, 1, 0x1b, 0x21, 8]).collect();
+    assert_eq!(written(&card(&settings)).unwrap().len(), 147);
+}

@@ -1,0 +1,226 @@
+//! Demand 3: five rounds settle, and what is held of the peer is its own.
+
+mod common;
+use common::*;
+use reference::events::{random, OwnedSettings};
+use reference::layout;
+use reference::rng::XorShift;
+use reference::rounds::{Ends, Round};
+use reference::{Card, Flag, Reason};
+
+/// A few calls that are refused, whatever their octets.
+fn refused(rng: &mut XorShift, card: &mut Card) {
+    while rng.percent(20) {
+        match rng.below(4) {
+            0 => {
+                let length = written(card).unwrap().len();
+                let mut out = vec![0; rng.below(length as u32) as usize];
+                assert_eq!(card.write(&mut out), Err(10));
+            }
+            1 => {
+                let length = rng.below(80) as usize;
+                let octets = rng.octets(length);
+                if layout::read(&octets).is_err() {
+                    assert!(card.frame(&octets).is_err());
+                }
+            }
+            _ => {
+                // Our own frame with an octet changed or its end cut.
+                let mut octets = written(card).unwrap();
+                let place = rng.below(octets.len() as u32) as usize;
+                if rng.flip() {
+                    octets[place] ^= 1 << rng.below(8);
+                } else {
+                    octets.truncate(place);
+                }
+                if layout::read(&octets).is_err() {
+                    assert!(card.frame(&octets).is_err());
+                }
+            }
+        }
+    }
+}
+
+/// A just started port, now and then one with a past.
+fn started(rng: &mut XorShift, settings: &OwnedSettings) -> Card {
+    let mut card = card(settings);
+    if rng.percent(25) {
+        for _ in 0..rng.below(4) {
+            let (seqno, ackno) = (rng.below(4), rng.below(4));
+            let mut list = sub_tlvs(seqno, ackno, rng.octet());
+            list.remove(1 + rng.below(3) as usize);
+            card.frame(&frame(&list)).unwrap();
+        }
+        match rng.below(3) {
+            0 => drop(card.peer_gone().unwrap()),
+            1 => {
+                card.set_flag(Flag::SeveralNeighbours, true);
+                card.set_flag(Flag::SeveralNeighbours, false);
+            }
+            _ => {
+                card.set_flag(Flag::Enabled, false);
+                card.set_flag(Flag::Enabled, true);
+            }
+        }
+    }
+    card
+}
+
+fn pair(rng: &mut XorShift) -> Ends {
+    let a = random::settings(rng);
+    let b = if rng.percent(85) {
+        random::settings_near(rng, &a)
+    } else {
+        random::settings(rng)
+    };
+    let (a, b) = if rng.flip() { (a, b) } else { (b, a) };
+    Ends::new(started(rng, &a), started(rng, &b))
+}
+
+fn dumps(ends: &Ends) -> [Vec<u8>; 2] {
+    [ends.end[0].dump(), ends.end[1].dump()]
+}
+
+#[test]
+fn five_rounds_settle() {
+    let seed = 0x2024_0001;
+    println!("seed {seed:#x}");
+    let mut rng = XorShift::new(seed);
+    let mut settled_after = [0u32; 6];
+    let mut seen = [0u32; 10];
+    let pairs = 200_000;
+    for i in 0..pairs {
+        let mut ends = pair(&mut rng);
+        let mut first = None;
+        for round in 1..=5 {
+            let whole = Round::whole(rng.below(2) as usize);
+            ends.round_with(whole, |card| refused(&mut rng, card));
+            assert!(ends.held_is_own(), "pair {i}");
+            if first.is_none() && ends.settled() {
+                first = Some(round);
+            }
+        }
+        assert!(ends.settled(), "pair {i}: {ends:?}");
+        settled_after[first.unwrap()] += 1;
+        for end in &ends.end {
+            reasons(end)
+                .iter()
+                .for_each(|&reason| seen[reason as usize] += 1);
+        }
+        // What settled stays.
+        let before = dumps(&ends);
+        ends.round();
+        assert_eq!(before, dumps(&ends), "pair {i}");
+    }
+    println!(
+        "{pairs} pairs; settled after 1 to 5 rounds: {:?}",
+        &settled_after[1..]
+    );
+    for reason in Reason::ALL {
+        println!("{:8} {reason:?}", seen[reason as usize]);
+    }
+    // All that two settings alone can give.
+    for reason in [
+        Reason::NotAdvertised,
+        Reason::Absent,
+        Reason::Disabled,
+        Reason::Agreed,
+        Reason::NotCompatible,
+    ] {
+        assert!(seen[reason as usize] > 1000);
+    }
+    assert!(settled_after[5] > 0);
+}
+
+#[test]
+fn losses_leave_the_peers_own() {
+    let seed = 0x2024_0002;
+    println!("seed {seed:#x}");
+    let mut rng = XorShift::new(seed);
+    let pairs = 100_000;
+    let mut held = 0u32;
+    for i in 0..pairs {
+        let mut ends = pair(&mut rng);
+        for _ in 0..rng.below(12) {
+            let round = Round {
+                first: rng.below(2) as usize,
+                writes: [rng.percent(80), rng.percent(80)],
+                delivered: [rng.percent(60), rng.percent(60)],
+            };
+            ends.round_with(round, |card| refused(&mut rng, card));
+            assert!(ends.held_is_own(), "pair {i}: {ends:?}");
+            held += ends
+                .end
+                .iter()
+                .map(|end| u32::from(end.flow().peer.is_some()))
+                .sum::<u32>();
+        }
+        // After the losses, rounds without any settle too.
+        for _ in 0..5 {
+            ends.round();
+        }
+        assert!(ends.settled(), "pair {i}: {ends:?}");
+    }
+    println!("{pairs} pairs, flow control held {held} times");
+    assert!(held > pairs);
+}
+
+/// One feature's kind: who advertises, the two Max, and whether rule 9 applies.
+#[derive(Clone, Copy)]
+struct Kind {
+    advertise: (bool, bool),
+    max: (u8, u8),
+    clash: bool,
+}
+
+fn kinds() -> Vec<Kind> {
+    let mut kinds = Vec::new();
+    for advertise in [(true, true), (true, false), (false, true), (false, false)] {
+        for max in [(0, 0), (0, 1), (1, 0)] {
+            for clash in [false, true] {
+                kinds.push(Kind {
+                    advertise,
+                    max,
+                    clash,
+                });
+            }
+        }
+    }
+    kinds
+}
+
+#[test]
+fn every_kind_of_settings() {
+    let kinds = kinds();
+    let mut after = [0u32; 6];
+    for (a_max, b_max) in [(0, 0), (0, 1), (1, 0)] {
+        for groups in &kinds {
+            for flow in &kinds {
+                for applications in &kinds {
+                    let mut a = w2_settings();
+                    let mut b = w2_settings();
+                    (a.control_max, b.control_max) = (a_max, b_max);
+                    for (i, kind) in [groups, flow, applications].into_iter().enumerate() {
+                        let (ours, theirs) = (&mut a.feature[i], &mut b.feature[i]);
+                        (ours.0, theirs.0) = kind.max;
+                        (ours.1.advertise, theirs.1.advertise) = kind.advertise;
+                        if kind.clash {
+                            theirs.1.parameters = other_parameters(2 + i as u8);
+                        }
+                    }
+                    let mut ends = Ends::new(card(&a), card(&b));
+                    let rounds = (1..=5).find(|_| {
+                        ends.round();
+                        ends.settled()
+                    });
+                    after[rounds.expect("five rounds are enough")] += 1;
+                    let before = dumps(&ends);
+                    ends.round();
+                    assert_eq!(before, dumps(&ends));
+                }
+            }
+        }
+    }
+    println!("settled after 1 to 5 rounds: {:?}", &after[1..]);
+    assert!(after[5] > 0);
+}
