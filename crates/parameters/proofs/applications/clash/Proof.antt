@@ -1,0 +1,24 @@
+-- `applications::clash` meets its contract. Assumes nothing.
+use borrow.Author.Needs.{needs}
+use Rattle.parameters.specs.ApplicationsLaws.{clash-none, clash-maps}
+use Rattle.parameters.proofs.applications.clash.Statement.{statement}
+use Rattle.parameters.proofs.applications.clash.Tie as tie
+
+same-name-requires : tie.Need-same-name-requires
+same-name-requires c κs = search needs
+
+returns : tie.Need-returns
+returns c = search clash-none
+
+map-of-requires : tie.Need-map-of-requires
+map-of-requires c κs = search needs
+
+map-of-requires-2 : tie.Need-map-of-requires-2
+map-of-requires-2 c κs = search needs
+
+returns-2 : tie.Need-returns-2
+returns-2 c = search clash-maps
+
+pub clash-spec : {M : Type 1} → statement M
+clash-spec =
+    tie.close (tie.spec same-name-requires returns map-of-requires map-of-requires-2 returns-2)

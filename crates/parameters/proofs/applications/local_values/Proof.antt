@@ -1,0 +1,51 @@
+-- `applications::local_values` meets its contract: each selector before i is 0 or 1. Assumes nothing.
+use Prim.Native.Nat.{_-_}
+use borrow.Author.Needs.{needs}
+use native.Mathlib.Omega.{arith}
+use Rattle.parameters.specs.Parameters.{entryCount}
+use Rattle.parameters.specs.AllLaws.{Passed, passed-start}
+use Rattle.parameters.specs.Steps.{lowSelector}
+use Rattle.parameters.specs.ApplicationsLaws.{selector-high, selector-more, selectors-low}
+use Rattle.parameters.proofs.applications.local_values.Statement.{statement}
+use Rattle.parameters.proofs.applications.local_values.Tie as tie
+
+abbrev Inv-loop : tie.InvT-loop
+Inv-loop p n i₀ i = Passed (entryCount p) (lowSelector p) i
+
+abbrev μ-loop : tie.MeasureT-loop
+μ-loop p n i₀ i = entryCount p - i
+
+loop-holds : tie.Need-loop-holds Inv-loop μ-loop
+loop-holds c = search passed-start
+
+selector-of-requires : tie.Need-selector-of-requires Inv-loop μ-loop
+selector-of-requires c κs = search needs
+
+returns : tie.Need-returns Inv-loop μ-loop
+returns c = search selector-high
+
+add-i : tie.Need-add-i Inv-loop μ-loop
+add-i c = omega arith
+
+loop-less : tie.Need-loop-less Inv-loop μ-loop
+loop-less c = omega arith
+
+loop-again : tie.Need-loop-again Inv-loop μ-loop
+loop-again c = search selector-more
+
+returns-2 : tie.Need-returns-2 Inv-loop μ-loop
+returns-2 c = search selectors-low
+
+pub local-values-spec : {M : Type 1} → statement M
+local-values-spec =
+    tie.close
+    (tie.spec
+    Inv-loop
+    μ-loop
+    loop-holds
+    selector-of-requires
+    returns
+    add-i
+    loop-less
+    loop-again
+    returns-2)

@@ -1,0 +1,50 @@
+-- `applications::new_name` meets its contract: no entry before j has the name. Assumes nothing.
+use Prim.Native.Nat.{_-_}
+use borrow.Author.Needs.{needs}
+use native.Mathlib.Omega.{arith}
+use Rattle.parameters.specs.AllLaws.{Passed, passed-start}
+use Rattle.parameters.specs.Steps.{otherName}
+use Rattle.parameters.specs.ApplicationsLaws.{name-again, name-more, name-new}
+use Rattle.parameters.proofs.applications.new_name.Statement.{statement}
+use Rattle.parameters.proofs.applications.new_name.Tie as tie
+
+abbrev Inv-loop : tie.InvT-loop
+Inv-loop p i j₀ j = Passed i (otherName p i) j
+
+abbrev μ-loop : tie.MeasureT-loop
+μ-loop p i j₀ j = i - j
+
+loop-holds : tie.Need-loop-holds Inv-loop μ-loop
+loop-holds c = search passed-start
+
+same-name-requires : tie.Need-same-name-requires Inv-loop μ-loop
+same-name-requires c κs = search needs
+
+returns : tie.Need-returns Inv-loop μ-loop
+returns c = search name-again
+
+add-j : tie.Need-add-j Inv-loop μ-loop
+add-j c = omega arith
+
+loop-less : tie.Need-loop-less Inv-loop μ-loop
+loop-less c = omega arith
+
+loop-again : tie.Need-loop-again Inv-loop μ-loop
+loop-again c = search name-more
+
+returns-2 : tie.Need-returns-2 Inv-loop μ-loop
+returns-2 c = search name-new
+
+pub new-name-spec : {M : Type 1} → statement M
+new-name-spec =
+    tie.close
+    (tie.spec
+    Inv-loop
+    μ-loop
+    loop-holds
+    same-name-requires
+    returns
+    add-j
+    loop-less
+    loop-again
+    returns-2)

@@ -1,0 +1,12 @@
+pub mod Parameters
+pub mod Steps
+pub mod ListLaws
+pub mod AllLaws
+pub mod GroupsLaws
+pub mod FlowLaws
+pub mod ApplicationsLaws
+pub mod FeatureLaws
+pub mod PlainLaws
+pub mod HoldingLaws
+pub mod CompatibleLaws
+pub mod WritingLaws

@@ -1,0 +1,26 @@
+// A configuration's octets, written.
+ghost use mathlib.Core.Path.{_≡_};
+ghost use Prim.Native.Nat.{_+_, _≤_};
+ghost use lib.ListN.{length};
+ghost use lib.Seq.{sets};
+ghost use Rattle.parameters.specs.Parameters.{content};
+ghost use Rattle.parameters.specs.WritingLaws.{Size};
+use crate::Parameters;
+
+// How many octets the configuration has.
+pub fn size(p: Parameters) -> usize
+    ensures { λ r. ⌜ Size p r ⌝ }
+{
+    let held = p.octets;
+    let octets = octets::first(&held, p.length);
+    octets.len()
+}
+
+// Writes them at `at`, where the caller has room for them.
+pub fn put(out: &mut [u8], at: usize, p: Parameters)
+    requires { ⌜ at + length (content p) ≤ length (now out) ⌝ }
+    ensures { λ _. ⌜ now (out .exit) ≡ sets (now (out .entry)) at (content p) ⌝ }
+{
+    let held = p.octets;
+    octets::numbers::put(out, at, octets::first(&held, p.length));
+}
