@@ -1,0 +1,20 @@
+-- `feature::steps::fresh_at` meets its contract. Assumes nothing.
+use Rattle.feature.specs.StateLaws.{fresh-advertised, fresh-withheld}
+use borrow.Author.Needs.{needs}
+use Rattle.feature.proofs.steps.fresh_at.Statement.{statement}
+use Rattle.feature.proofs.steps.fresh_at.Tie as tie
+
+without-peer-requires : tie.Need-without-peer-requires
+without-peer-requires c κs = search needs
+
+returns : tie.Need-returns
+returns c = search fresh-advertised
+
+no-peer-requires : tie.Need-no-peer-requires
+no-peer-requires c κs = search needs
+
+returns-2 : tie.Need-returns-2
+returns-2 c = search fresh-withheld
+
+pub fresh-at-spec : {M : Type 1} → statement M
+fresh-at-spec = tie.close (tie.spec without-peer-requires returns no-peer-requires returns-2)

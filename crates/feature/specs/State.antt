@@ -1,0 +1,124 @@
+-- 01, Port events and Handling a frame: what concerns one feature's state.
+use Prim.Native.Nat.{ℕ, _+_, _*_, _/_, _%_, _^_}
+use mathlib.Core.Bool.{Bool, true, false, not, _&&_, _||_, Bool·beq}
+use mathlib.Core.List.{List, [], _∷_, _++_}
+use lib.ListN.{length}
+use Rattle.octets.specs.Words.{if_then_else_, _is_}
+use Rattle.octets.specs.Octets.{same}
+use Rattle.parameters.specs.declared.Feature.{Feature}
+use Rattle.feature.specs.declared.Reason.{Reason}
+use Rattle.feature.specs.declared.Reason.the-variants.{NoPeerYet, NotAdvertised, ControlTwice}
+use Rattle.feature.specs.declared.Switches.{Switches}
+use Rattle.feature.specs.declared.Setting.{Setting}
+use Rattle.feature.specs.declared.Outcome.{Outcome}
+use Rattle.feature.specs.declared.State.{State}
+use Rattle.parameters.specs.Parameters.{featureNumber, plain, stored, content, sameParameters}
+use Rattle.feature.specs.Outcome.{Received, noPeer, withoutPeer, settled, outcome}
+
+-- "SeqNo goes up by one, 4,294,967,295 going to 0"
+abbrev pub next : ℕ → ℕ
+next n = (n + 1) % 2 ^ 32
+
+abbrev pub withOutcome : State → Outcome → State
+withOutcome x o = record { max = x .max; setting = x .setting; outcome = o; syncd = x .syncd; sequence = x .sequence }
+
+-- "Each feature: Oper = Max, peer none, Error false, OperCfg = DesiredCfg. Advertised: reason "no peer yet", mode false, Syncd
+-- false, FeatureSeqNo 1. Not advertised: reason "not advertised", mode = enable, Syncd true, FeatureSeqNo 1."
+unfoldable pub freshAt : ℕ → ℕ → Setting → State
+freshAt sequence max s =
+    if s .advertise then record { max = max; setting = s; outcome = withoutPeer s NoPeerYet max false; syncd = false; sequence = sequence }
+    else
+    record {
+      max = max;
+      setting = s;
+      outcome = record { reason = NotAdvertised; oper = max; error = false; mode = s .enable; peer = noPeer; configuration = s .desired };
+      syncd = true;
+      sequence = sequence;
+    }
+
+abbrev pub fresh : ℕ → Setting → State
+fresh max s = freshAt 1 max s
+
+-- "A port that isn't running holds that state with every mode false."
+abbrev pub modeOff : Outcome → Outcome
+modeOff o = record { reason = o .reason; oper = o .oper; error = o .error; mode = false; peer = o .peer; configuration = o .configuration }
+
+abbrev pub stopped : State → State
+stopped x = withOutcome x (modeOff (x .outcome))
+
+-- ---- Writing
+
+-- "Flags: enable 80, willing 40, error 20 (hex); other bits are .. zero on writing."
+abbrev pub flags : Bool → Bool → Bool → ℕ
+flags enable willing error = (if enable then 128 else 0) + (if willing then 64 else 0) + (if error then 32 else 0)
+
+-- "Types 2 to 4, features: Oper, Max, flags, SubType, then parameters."
+abbrev pub value : State → List ℕ
+value x =
+    x .outcome .oper ∷ x .max ∷ flags (x .setting .enable) (x .setting .willing) (x .outcome .error) ∷ 0 ∷ content (x .setting .desired)
+
+-- a head of type and length, as every sub-TLV has it, and the value behind it
+abbrev pub headed : ℕ → List ℕ → List ℕ
+headed type v = (type * 2 + length v / 256) ∷ (length v % 256) ∷ v
+
+-- the sub-TLV that is written: none where the feature is not advertised
+unfoldable pub subTlv : Feature → State → List ℕ
+subTlv f x = if x .setting .advertise then headed (featureNumber f) (value x) else []
+
+-- ---- Handling
+
+-- Step 1: "each advertised feature gets reason "control twice", Error true, mode false, peer none, OperCfg = DesiredCfg"
+unfoldable pub controlTwice : State → State
+controlTwice x =
+    if x .setting .advertise then withOutcome x (withoutPeer (x .setting) ControlTwice (x .outcome .oper) true)
+    else x
+
+-- Step 3: "A feature whose FeatureSeqNo equals both RcvdAckNo and SeqNo becomes Syncd."
+unfoldable pub acknowledged : ℕ → ℕ → State → State
+acknowledged rcvd seq x =
+    record { max = x .max; setting = x .setting; outcome = x .outcome; syncd = x .syncd || (x .sequence is rcvd && x .sequence is seq); sequence = x .sequence }
+
+-- Step 4: "Each advertised feature, by the outcome rules. Others ignore what came."
+unfoldable pub received : Feature → Received → State → State
+received f r x =
+    if x .setting .advertise then withOutcome x (outcome f (x .max) (x .setting) (x .outcome .oper) r)
+    else x
+
+-- Step 5: "For each advertised feature whose written sub-TLV changed in this event: Syncd false, FeatureSeqNo = SeqNo + 1
+-- (wrapping)." The state before the event and after it.
+unfoldable pub changed : Feature → State → State → Bool
+changed f before after = not (same (subTlv f before) (subTlv f after))
+
+unfoldable pub marked : Feature → ℕ → State → State → State
+marked f seq before after =
+    if after .setting .advertise && changed f before after then
+    record { max = after .max; setting = after .setting; outcome = after .outcome; syncd = false; sequence = next seq }
+    else after
+
+-- ---- Settings
+
+-- a setting whose parameters are given as octets, read as received ones are
+abbrev pub settingOf : Feature → Switches → List ℕ → Setting
+settingOf f w p = record { advertise = w .advertise; enable = w .enable; willing = w .willing; desired = stored (plain f p) }
+
+-- "two settings are equal only if advertise, enable, willing and these all are"
+unfoldable pub sameSetting : Setting → Setting → Bool
+sameSetting s t =
+    Bool·beq (s .advertise) (t .advertise) && Bool·beq (s .enable) (t .enable) && Bool·beq (s .willing) (t .willing)
+    && sameParameters (s .desired) (t .desired)
+
+-- "if Advertise stays true, a held peer goes through outcome rules 6 to 9 again, and without one the reason, Error and mode stay
+-- and OperCfg = DesiredCfg. If Advertise stays false, OperCfg = DesiredCfg and mode = enable, nothing else."
+unfoldable pub resettled : Feature → Setting → Outcome → Outcome
+resettled f s o =
+    if not (s .advertise) then
+    record { reason = o .reason; oper = o .oper; error = o .error; mode = s .enable; peer = o .peer; configuration = s .desired }
+    else if o .peer .held then settled f s (o .oper) (o .peer)
+    else record { reason = o .reason; oper = o .oper; error = o .error; mode = o .mode; peer = o .peer; configuration = s .desired }
+
+-- "If Advertise goes false or true, the feature becomes as in the fresh state, except that FeatureSeqNo = SeqNo + 1."
+unfoldable pub reset : Feature → ℕ → Setting → State → State
+reset f seq s x =
+    if Bool·beq (x .setting .advertise) (s .advertise) then
+    record { max = x .max; setting = s; outcome = resettled f s (x .outcome); syncd = x .syncd; sequence = x .sequence }
+    else freshAt (next seq) (x .max) s

@@ -1,0 +1,268 @@
+-- A feature's state, a law for each way out of its functions: premises in the form in which a test leaves them. Assumes nothing.
+use Prim.Native.Nat.{ℕ, _+_, _*_, _/_, _%_, _<_, _≤_}
+use mathlib.Core.Bool.{Bool, true, false, not, _&&_, _||_, Bool·beq, or-true, or-false, and-false, false≢true}
+use mathlib.Core.Path.{_≡_, _∙_, refl, sym, ap, ap₂}
+use mathlib.Core.List.{List, [], _∷_}
+use lib.ListN.{length}
+use Rattle.parameters.specs.WritingLaws.{Size}
+use lib.Seq.{sets}
+use Rattle.octets.specs.Octets.{same}
+use Rattle.octets.specs.Laws.{same-is, same-refl, sets-append}
+use Rattle.parameters.specs.Parameters.{featureNumber, content, sameParameters}
+use native.Mathlib.Omega.{arith}
+use borrow.Author.Tests.{not-true, not-false, lt-ltb, le-ltb, eq-eqb, ne-eqb}
+use Rattle.parameters.specs.declared.Feature.{Feature}
+use Rattle.parameters.specs.declared.Feature.the-variants.{Groups, Flow, Applications}
+use Rattle.parameters.specs.declared.Parameters.{Parameters}
+use Rattle.feature.specs.declared.Reason.the-variants.{NoPeerYet, NotAdvertised, ControlTwice}
+use Rattle.feature.specs.declared.Setting.{Setting}
+use Rattle.feature.specs.declared.Peer.{Peer}
+use Rattle.feature.specs.declared.Outcome.{Outcome}
+use Rattle.feature.specs.declared.State.{State}
+use Rattle.feature.specs.Outcome.{Received, noPeer, withoutPeer, settled, outcome}
+use Rattle.feature.specs.State.{next, withOutcome, freshAt, controlTwice, acknowledged, received, flags, value, headed, subTlv, changed, marked, sameSetting, resettled, reset}
+
+module _ (sequence max : ℕ) (s : Setting) where
+  pub fresh-advertised : {o : Outcome} → s .advertise ≡ true → o ≡ withoutPeer s NoPeerYet max false
+      → record { max = max; setting = s; outcome = o; syncd = false; sequence = sequence } ≡ freshAt sequence max s
+  unfolding freshAt
+  fresh-advertised t e = simp (e, t)
+
+  pub fresh-withheld : {p : Peer} → s .advertise ≡ false → p ≡ noPeer
+      → record {
+        max = max;
+        setting = s;
+        outcome = record { reason = NotAdvertised; oper = max; error = false; mode = s .enable; peer = p; configuration = s .desired };
+        syncd = true;
+        sequence = sequence;
+      } ≡ freshAt sequence max s
+  unfolding freshAt
+  fresh-withheld t e = simp (e, t)
+
+module _ (x : State) where
+  pub twice-withheld : not (x .setting .advertise) ≡ true → x ≡ controlTwice x
+  unfolding controlTwice
+  twice-withheld t = simp (not-true (x .setting .advertise) t)
+
+  pub twice-advertised : {o : Outcome} → not (x .setting .advertise) ≡ false → o ≡ withoutPeer (x .setting) ControlTwice (x .outcome .oper) true
+      → withOutcome x o ≡ controlTwice x
+  unfolding controlTwice
+  twice-advertised t e = simp (e, not-false (x .setting .advertise) t)
+
+  module _ (rcvd seq : ℕ) where
+    pub acknowledged-stale : (x .sequence ≡ rcvd → ⊥) → x ≡ acknowledged rcvd seq x
+    unfolding acknowledged
+    acknowledged-stale n = rw (ne-eqb (x .sequence) rcvd n, or-false (x .syncd)) refl
+
+    pub acknowledged-early : x .sequence ≡ rcvd → (x .sequence ≡ seq → ⊥) → x ≡ acknowledged rcvd seq x
+    unfolding acknowledged
+    acknowledged-early e n = rw (eq-eqb (x .sequence) rcvd e, ne-eqb (x .sequence) seq n, or-false (x .syncd)) refl
+
+    pub acknowledged-now : x .sequence ≡ rcvd → x .sequence ≡ seq
+        → record { max = x .max; setting = x .setting; outcome = x .outcome; syncd = true; sequence = x .sequence } ≡ acknowledged rcvd seq x
+    unfolding acknowledged
+    acknowledged-now e h = rw (eq-eqb (x .sequence) rcvd e, eq-eqb (x .sequence) seq h, or-true (x .syncd)) refl
+
+  module _ (f : Feature) (r : Received) where
+    pub received-withheld : not (x .setting .advertise) ≡ true → x ≡ received f r x
+    unfolding received
+    received-withheld t = simp (not-true (x .setting .advertise) t)
+
+    pub received-advertised : {o : Outcome} → not (x .setting .advertise) ≡ false → o ≡ outcome f (x .max) (x .setting) (x .outcome .oper) r
+        → withOutcome x o ≡ received f r x
+    unfolding received
+    received-advertised t e = simp (e, not-false (x .setting .advertise) t)
+
+-- ---- whether the written sub-TLV changed
+
+alike : (a b : Bool) → not (Bool·beq a b) ≡ false → a ≡ b
+alike true true e = refl
+alike true false e = e
+alike false true e = sym e
+alike false false e = refl
+
+module _ (f : Feature) (x y : State) where
+  pub changed-not : subTlv f x ≡ subTlv f y → false ≡ changed f x y
+  unfolding changed
+  changed-not e = rw e (ap not (sym (same-refl (subTlv f y))))
+
+  pub changed-shown : not (Bool·beq (x .setting .advertise) (y .setting .advertise)) ≡ true → true ≡ changed f x y
+  unfolding changed subTlv same
+  changed-shown t = go (x .setting .advertise) (y .setting .advertise) refl refl t
+    where
+      go : (a b : Bool) → x .setting .advertise ≡ a → y .setting .advertise ≡ b → not (Bool·beq (x .setting .advertise) (y .setting .advertise)) ≡ true → true ≡ changed f x y
+      go true true p q t = let h : false ≡ true = rw (p, q) at t in absurd (false≢true h)
+      go true false p q t = rw (p, q) refl
+      go false true p q t = rw (p, q) refl
+      go false false p q t = let h : false ≡ true = rw (p, q) at t in absurd (false≢true h)
+
+  module _ (t : not (Bool·beq (x .setting .advertise) (y .setting .advertise)) ≡ false) where
+    pub changed-hidden : not (x .setting .advertise) ≡ true → false ≡ changed f x y
+    unfolding changed subTlv same
+    changed-hidden u =
+        let p : x .setting .advertise ≡ false = not-true (x .setting .advertise) u in
+        let q : y .setting .advertise ≡ false = sym (alike (x .setting .advertise) (y .setting .advertise) t) ∙ p in
+        rw (p, q) refl
+
+    module _ (u : not (x .setting .advertise) ≡ false) where
+      shown : (x .setting .advertise ≡ true) × (y .setting .advertise ≡ true)
+      shown =
+          let p : x .setting .advertise ≡ true = not-false (x .setting .advertise) u in
+          (p, sym (alike (x .setting .advertise) (y .setting .advertise) t) ∙ p)
+
+      pub changed-oper : (x .outcome .oper ≡ y .outcome .oper → ⊥) → true ≡ changed f x y
+      unfolding changed subTlv same
+      changed-oper n =
+          rw (shown .0, shown .1, ne-eqb (x .outcome .oper) (y .outcome .oper) n) (simp and-false)
+
+      pub changed-max : x .outcome .oper ≡ y .outcome .oper → (x .max ≡ y .max → ⊥) → true ≡ changed f x y
+      unfolding changed subTlv same
+      changed-max e n = rw (shown .0, shown .1, ne-eqb (x .max) (y .max) n) (simp and-false)
+
+      module _ {a b : ℕ} (ea : a ≡ flags (x .setting .enable) (x .setting .willing) (x .outcome .error)) (eb : b ≡ flags (y .setting .enable) (y .setting .willing) (y .outcome .error)) where
+        pub changed-flags : (a ≡ b → ⊥) → true ≡ changed f x y
+        unfolding changed subTlv same
+        changed-flags n =
+            rw (shown .0, shown .1, ne-eqb (flags (x .setting .enable) (x .setting .willing) (x .outcome .error)) (flags (y .setting .enable) (y .setting .willing) (y .outcome .error)) (λ z. n (ea ∙ z ∙ sym eb)))
+            (simp and-false)
+
+        pub changed-parameters : {r : Bool} → x .outcome .oper ≡ y .outcome .oper → x .max ≡ y .max → a ≡ b
+            → r ≡ same (content (x .setting .desired)) (content (y .setting .desired)) → not r ≡ changed f x y
+        unfolding changed subTlv same
+        changed-parameters {r} o m g e = rw e (go (same (content (x .setting .desired)) (content (y .setting .desired))) refl)
+          where
+            go : (s : Bool) → same (content (x .setting .desired)) (content (y .setting .desired)) ≡ s
+                → not (same (content (x .setting .desired)) (content (y .setting .desired))) ≡ changed f x y
+            go true s =
+                let c : content (x .setting .desired) ≡ content (y .setting .desired) = same-is _ _ s in
+                let h : value x ≡ value y = λ i. o i ∷ m i ∷ (sym ea ∙ g ∙ eb) i ∷ 0 ∷ c i in
+                let w : subTlv f x ≡ subTlv f y = rw (shown .0, shown .1) (ap (λ (v : List ℕ). (featureNumber f * 2 + length v / 256) ∷ (length v % 256) ∷ v) h) in
+                rw s (changed-not w)
+            go false s = rw (s, shown .0, shown .1) (simp (s, and-false))
+
+-- ---- step 5
+
+module _ (f : Feature) (seq : ℕ) (x y : State) where
+  pub marked-withheld : not (y .setting .advertise) ≡ true → y ≡ marked f seq x y
+  unfolding marked
+  marked-withheld t = simp (not-true (y .setting .advertise) t)
+
+  module _ (t : not (y .setting .advertise) ≡ false) {d : Bool} (e : d ≡ changed f x y) where
+    pub marked-same : not d ≡ true → y ≡ marked f seq x y
+    unfolding marked
+    marked-same u = simp (not-false (y .setting .advertise) t, ← e, not-true d u)
+
+    pub marked-changed : {n : ℕ} → not d ≡ false → n ≡ next seq
+        → record { max = y .max; setting = y .setting; outcome = y .outcome; syncd = false; sequence = n } ≡ marked f seq x y
+    unfolding marked
+    marked-changed u h = simp (h, not-false (y .setting .advertise) t, ← e, not-false d u)
+
+-- ---- settings
+
+module _ (s t : Setting) where
+  pub settings-advertise : not (Bool·beq (s .advertise) (t .advertise)) ≡ true → false ≡ sameSetting s t
+  unfolding sameSetting
+  settings-advertise a = simp (not-true (Bool·beq (s .advertise) (t .advertise)) a)
+
+  module _ (a : not (Bool·beq (s .advertise) (t .advertise)) ≡ false) where
+    pub settings-enable : not (Bool·beq (s .enable) (t .enable)) ≡ true → false ≡ sameSetting s t
+    unfolding sameSetting
+    settings-enable b = simp (not-false (Bool·beq (s .advertise) (t .advertise)) a, not-true (Bool·beq (s .enable) (t .enable)) b)
+
+    module _ (b : not (Bool·beq (s .enable) (t .enable)) ≡ false) where
+      pub settings-willing : not (Bool·beq (s .willing) (t .willing)) ≡ true → false ≡ sameSetting s t
+      unfolding sameSetting
+      settings-willing c =
+          simp (not-false (Bool·beq (s .advertise) (t .advertise)) a, not-false (Bool·beq (s .enable) (t .enable)) b, not-true (Bool·beq (s .willing) (t .willing)) c)
+
+      pub settings-parameters : {r : Bool} → not (Bool·beq (s .willing) (t .willing)) ≡ false → r ≡ sameParameters (s .desired) (t .desired) → r ≡ sameSetting s t
+      unfolding sameSetting
+      settings-parameters c e =
+          simp (e, not-false (Bool·beq (s .advertise) (t .advertise)) a, not-false (Bool·beq (s .enable) (t .enable)) b, not-false (Bool·beq (s .willing) (t .willing)) c)
+
+module _ (f : Feature) (s : Setting) (o : Outcome) where
+  pub resettled-withheld : not (s .advertise) ≡ true
+      → record { reason = o .reason; oper = o .oper; error = o .error; mode = s .enable; peer = o .peer; configuration = s .desired } ≡ resettled f s o
+  unfolding resettled
+  resettled-withheld t = simp t
+
+  module _ (t : not (s .advertise) ≡ false) where
+    pub resettled-held : {r : Outcome} → o .peer .held ≡ true → r ≡ settled f s (o .oper) (o .peer) → r ≡ resettled f s o
+    unfolding resettled
+    resettled-held h e = simp (e, t, h)
+
+    pub resettled-alone : o .peer .held ≡ false
+        → record { reason = o .reason; oper = o .oper; error = o .error; mode = o .mode; peer = o .peer; configuration = s .desired } ≡ resettled f s o
+    unfolding resettled
+    resettled-alone h = simp (t, h)
+
+module _ (f : Feature) (seq : ℕ) (s : Setting) (x : State) where
+  pub reset-anew : {n : ℕ} {r : State} → not (Bool·beq (x .setting .advertise) (s .advertise)) ≡ true → n ≡ next seq → r ≡ freshAt n (x .max) s → r ≡ reset f seq s x
+  unfolding reset
+  reset-anew t e h = simp (h, e, not-true (Bool·beq (x .setting .advertise) (s .advertise)) t)
+
+  pub reset-kept : {o : Outcome} → not (Bool·beq (x .setting .advertise) (s .advertise)) ≡ false → o ≡ resettled f s (x .outcome)
+      → record { max = x .max; setting = s; outcome = o; syncd = x .syncd; sequence = x .sequence } ≡ reset f seq s x
+  unfolding reset
+  reset-kept t e = simp (e, not-false (Bool·beq (x .setting .advertise) (s .advertise)) t)
+
+-- ---- writing
+
+pub length-subTlv : (f : Feature) (x : State) → x .setting .advertise ≡ true → length (subTlv f x) ≡ 6 + length (content (x .setting .desired))
+unfolding subTlv
+length-subTlv f x t = rw t (omega arith)
+
+-- the number of its octets, which is at most 102
+pub record Sized (f : Feature) (x : State) (n : ℕ) : Type 0 where
+  pub is : n ≡ length (subTlv f x)
+  pub small : n ≤ 102
+
+pub sized-withheld : (f : Feature) (x : State) → not (x .setting .advertise) ≡ true → Sized f x 0
+unfolding subTlv
+sized-withheld f x t = record { is = rw (not-true (x .setting .advertise) t) refl; small = omega arith }
+
+pub feature-small : (f : Feature) {n : ℕ} → n ≡ featureNumber f → n ≤ 127
+unfolding featureNumber
+feature-small Groups e = omega arith
+feature-small Flow e = omega arith
+feature-small Applications e = omega arith
+
+-- a sub-TLV by its parts
+abbrev pub parts : ℕ → ℕ → ℕ → ℕ → List ℕ → List ℕ
+parts type oper max bits held = headed type (oper ∷ max ∷ bits ∷ 0 ∷ held)
+
+-- there is room for it at a place of the output
+pub record Room (out : List ℕ) (i type : ℕ) (held : List ℕ) : Type 0 where
+  pub room : i + 6 + length held ≤ length out
+  pub known : type ≤ 127
+
+pub parts-put : (oper max bits : ℕ) (p : Parameters) (out : List ℕ) (i type : ℕ) {a b : List ℕ} {m n : ℕ} → Size p m → n ≡ (4 + m) % 256
+    → a ≡ sets out i ((type * 2) ∷ n ∷ oper ∷ max ∷ bits ∷ 0 ∷ []) → b ≡ sets a (i + 6) (content p) → b ≡ sets out i (parts type oper max bits (content p))
+parts-put oper max bits p out i type {a} {b} {m} {n} s e ea eb =
+    let held : List ℕ = content p in
+    let v : List ℕ = oper ∷ max ∷ bits ∷ 0 ∷ held in
+    let h : type * 2 + length v / 256 ≡ type * 2 = omega (arith, s .is, s .small) in
+    let k : length v % 256 ≡ n = omega (arith, s .is, s .small) in
+    eb ∙ rw (ea, ← sets-append out i ((type * 2) ∷ n ∷ oper ∷ max ∷ bits ∷ 0 ∷ []) held) (ap₂ (λ (x y : ℕ). sets out i (x ∷ y ∷ oper ∷ max ∷ bits ∷ 0 ∷ held)) (sym h) (sym k))
+
+pub nothing-put : (f : Feature) (x : State) (out : List ℕ) (i : ℕ) → not (x .setting .advertise) ≡ true → out ≡ sets out i (subTlv f x)
+unfolding subTlv
+nothing-put f x out i t = rw (not-true (x .setting .advertise) t) refl
+
+-- with the size of its parameters
+module _ (f : Feature) (x : State) (t : not (x .setting .advertise) ≡ false) where
+  pub sized-advertised : {n : ℕ} → Size (x .setting .desired) n → Sized f x (6 + n)
+  sized-advertised {n} e =
+      let l : length (subTlv f x) ≡ 6 + length (content (x .setting .desired)) = length-subTlv f x (not-false (x .setting .advertise) t) in
+      record { is = omega (arith, e .is); small = omega (arith, e .small) }
+
+  module _ (out : List ℕ) (i : ℕ) {type : ℕ} (k : type ≡ featureNumber f) where
+    pub sub-tlv-room : i + length (subTlv f x) ≤ length out → Room out i type (content (x .setting .desired))
+    sub-tlv-room h =
+        let l : length (subTlv f x) ≡ 6 + length (content (x .setting .desired)) = length-subTlv f x (not-false (x .setting .advertise) t) in
+        record { room = omega arith; known = feature-small f k }
+
+    pub sub-tlv-put : {bits : ℕ} {a : List ℕ} → bits ≡ flags (x .setting .enable) (x .setting .willing) (x .outcome .error)
+        → a ≡ sets out i (parts type (x .outcome .oper) (x .max) bits (content (x .setting .desired))) → a ≡ sets out i (subTlv f x)
+    unfolding subTlv
+    sub-tlv-put b ea = ea ∙ rw (k, b, not-false (x .setting .advertise) t) refl

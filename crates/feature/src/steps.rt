@@ -1,0 +1,300 @@
+// A feature's state: fresh, acknowledged, received, marked, set anew.
+ghost use mathlib.Core.Path.{_≡_};
+ghost use Prim.Native.Nat.{_+_, _*_, _≤_};
+ghost use mathlib.Core.List.{[], _∷_};
+ghost use mathlib.Core.Bool.{not};
+ghost use lib.ListN.{length};
+ghost use lib.Seq.{sets};
+ghost use Rattle.octets.specs.Words.{if_then_else_};
+ghost use Rattle.octets.specs.Octets.{same};
+ghost use Rattle.parameters.specs.Parameters.{content};
+ghost use Rattle.feature.specs.StateLaws.{Room, Sized, parts};
+ghost use Rattle.feature.specs.State.{freshAt, stopped, controlTwice, acknowledged, received, changed, marked, next, flags, subTlv, settingOf, sameSetting, resettled, reset};
+use crate::Outcome;
+use crate::Reason;
+use crate::Setting;
+use crate::State;
+use crate::Switches;
+use parameters::Feature;
+use parameters::Parameters;
+
+// The fresh state of a setting (01, Port events).
+pub fn fresh_at(sequence: u32, max: u8, s: Setting) -> State
+    ensures { λ r. ⌜ r ≡ freshAt sequence max s ⌝ }
+{
+    if s.advertise {
+        let outcome = crate::without_peer(s, Reason::NoPeerYet, max, false);
+        return State {
+            max: max,
+            setting: s,
+            outcome: outcome,
+            syncd: false,
+            sequence: sequence,
+        };
+    }
+    let peer = crate::no_peer();
+    let own = s.desired;
+    let outcome = Outcome {
+        reason: Reason::NotAdvertised,
+        oper: max,
+        error: false,
+        mode: s.enable,
+        peer: peer,
+        configuration: own,
+    };
+    State {
+        max: max,
+        setting: s,
+        outcome: outcome,
+        syncd: true,
+        sequence: sequence,
+    }
+}
+
+// The state with its mode false, as a stopped port holds it.
+pub fn stopped(x: State) -> State
+    ensures { λ r. ⌜ r ≡ stopped x ⌝ }
+{
+    let mut o = x.outcome;
+    o.mode = false;
+    let mut next = x;
+    next.outcome = o;
+    next
+}
+
+// Step 1 of handling: the frame had two or more controls.
+pub fn control_twice(x: State) -> State
+    ensures { λ r. ⌜ r ≡ controlTwice x ⌝ }
+{
+    let s = x.setting;
+    if !s.advertise {
+        return x;
+    }
+    let o = x.outcome;
+    let outcome = crate::without_peer(s, Reason::ControlTwice, o.oper, true);
+    let mut next = x;
+    next.outcome = outcome;
+    next
+}
+
+// Step 3 of handling: what RcvdAckNo and SeqNo acknowledge.
+pub fn acknowledge(x: State, rcvd: u32, seq: u32) -> State
+    ensures { λ r. ⌜ r ≡ acknowledged rcvd seq x ⌝ }
+{
+    if x.sequence != rcvd {
+        return x;
+    }
+    if x.sequence != seq {
+        return x;
+    }
+    let mut next = x;
+    next.syncd = true;
+    next
+}
+
+// Step 4 of handling: the outcome rules on what the frame had of the feature.
+pub fn receive(x: State, f: Feature, count: u8, value: &[u8]) -> State
+    ensures { λ r. ⌜ r ≡ received f (record { count = count; value = now (value .entry) }) x ⌝ }
+{
+    let s = x.setting;
+    if !s.advertise {
+        return x;
+    }
+    let o = x.outcome;
+    let outcome = crate::decide(f, x.max, s, o.oper, count, value);
+    let mut next = x;
+    next.outcome = outcome;
+    next
+}
+
+fn bit(b: bool, v: u8) -> u8
+    ensures { λ r. ⌜ (r ≡ (if b then v else 0)) × (r ≤ v) ⌝ }
+{
+    if b { v } else { 0 }
+}
+
+// The flags octet of the sub-TLV.
+fn flags_of(x: State) -> u8
+    ensures { λ r. ⌜ r ≡ flags (x .setting .enable) (x .setting .willing) (x .outcome .error) ⌝ }
+{
+    let s = x.setting;
+    let o = x.outcome;
+    let enable = bit(s.enable, 128);
+    let willing = bit(s.willing, 64);
+    let error = bit(o.error, 32);
+    enable + willing + error
+}
+
+// Whether two configurations have the same octets.
+fn same_content(a: Parameters, b: Parameters) -> bool
+    ensures { λ r. ⌜ r ≡ same (content a) (content b) ⌝ }
+{
+    let x = a.octets;
+    let y = b.octets;
+    octets::same_octets(octets::first(&x, a.length), octets::first(&y, b.length))
+}
+
+// Whether the written sub-TLV changed from one state to another.
+pub fn differs(f: Feature, before: State, after: State) -> bool
+    ensures { λ r. ⌜ r ≡ changed f before after ⌝ }
+{
+    let s = before.setting;
+    let t = after.setting;
+    if s.advertise != t.advertise {
+        return true;
+    }
+    if !s.advertise {
+        return false;
+    }
+    let o = before.outcome;
+    let p = after.outcome;
+    if o.oper != p.oper {
+        return true;
+    }
+    if before.max != after.max {
+        return true;
+    }
+    if flags_of(before) != flags_of(after) {
+        return true;
+    }
+    let a = s.desired;
+    let b = t.desired;
+    !same_content(a, b)
+}
+
+// Step 5 of handling: an advertised feature whose sub-TLV changed waits for a new acknowledgement.
+pub fn mark(f: Feature, seq: u32, before: State, after: State) -> State
+    ensures { λ r. ⌜ r ≡ marked f seq before after ⌝ }
+{
+    let t = after.setting;
+    if !t.advertise {
+        return after;
+    }
+    if !differs(f, before, after) {
+        return after;
+    }
+    let up = std::num::wrapping_add_u32(seq, 1);
+    let mut next = after;
+    next.syncd = false;
+    next.sequence = up;
+    next
+}
+
+// A setting whose parameters are given as octets.
+pub fn setting_of(f: Feature, w: Switches, p: &[u8]) -> Setting
+    ensures { λ r. ⌜ r ≡ settingOf f w (now (p .entry)) ⌝ }
+{
+    let desired = parameters::hold(f, p);
+    Setting {
+        advertise: w.advertise,
+        enable: w.enable,
+        willing: w.willing,
+        desired: desired,
+    }
+}
+
+// Whether two settings are equal.
+pub fn same_setting(s: Setting, t: Setting) -> bool
+    ensures { λ r. ⌜ r ≡ sameSetting s t ⌝ }
+{
+    if s.advertise != t.advertise {
+        return false;
+    }
+    if s.enable != t.enable {
+        return false;
+    }
+    if s.willing != t.willing {
+        return false;
+    }
+    let a = s.desired;
+    let b = t.desired;
+    parameters::same_parameters(a, b)
+}
+
+// The outcome under another setting that is advertised just as the one before.
+fn resettle(f: Feature, s: Setting, o: Outcome) -> Outcome
+    ensures { λ r. ⌜ r ≡ resettled f s o ⌝ }
+{
+    let own = s.desired;
+    let peer = o.peer;
+    if !s.advertise {
+        let mut next = o;
+        next.mode = s.enable;
+        next.configuration = own;
+        return next;
+    }
+    if peer.held {
+        return crate::settle(f, s, o.oper, peer);
+    }
+    let mut next = o;
+    next.configuration = own;
+    next
+}
+
+// The feature under another setting.
+pub fn set_anew(f: Feature, seq: u32, s: Setting, x: State) -> State
+    ensures { λ r. ⌜ r ≡ reset f seq s x ⌝ }
+{
+    let t = x.setting;
+    if t.advertise != s.advertise {
+        let up = std::num::wrapping_add_u32(seq, 1);
+        return fresh_at(up, x.max, s);
+    }
+    let o = x.outcome;
+    let outcome = resettle(f, s, o);
+    let mut next = x;
+    next.setting = s;
+    next.outcome = outcome;
+    next
+}
+
+// How many octets the sub-TLV has: none where the feature is not advertised.
+pub fn sub_tlv_length(f: Feature, x: State) -> usize
+    ensures { λ r. ⌜ Sized f x r ⌝ }
+{
+    let s = x.setting;
+    if !s.advertise {
+        return 0;
+    }
+    let p = s.desired;
+    let n = parameters::writing::size(p);
+    6 + n
+}
+
+// Writes a sub-TLV by its parts: its type, its first four octets, of which SubType is 0, and its parameters.
+fn put_parts(out: &mut [u8], at: usize, kind: u8, oper: u8, max: u8, bits: u8, p: Parameters)
+    requires { ⌜ Room (now out) at kind (content p) ⌝ }
+    ensures { λ _. ⌜ now (out .exit) ≡ sets (now (out .entry)) at (parts kind oper max bits (content p)) ⌝ }
+{
+    let n = parameters::writing::size(p);
+    put_header(out, at, kind, ((4 + n) % 256) as u8, oper, max, bits);
+    parameters::writing::put(out, at + 6, p);
+}
+
+fn put_header(out: &mut [u8], at: usize, kind: u8, size: u8, oper: u8, max: u8, bits: u8)
+    requires { ⌜ (at + 6 ≤ length (now out)) × (kind ≤ 127) ⌝ }
+    ensures { λ _. ⌜ now (out .exit) ≡ sets (now (out .entry)) at ((kind * 2) ∷ size ∷ oper ∷ max ∷ bits ∷ 0 ∷ []) ⌝ }
+{
+    out[at] = kind * 2;
+    out[at + 1] = size;
+    out[at + 2] = oper;
+    out[at + 3] = max;
+    out[at + 4] = bits;
+    out[at + 5] = 0;
+}
+
+// Writes the sub-TLV at `at`; the caller has made room for it by its length.
+pub fn put_sub_tlv(out: &mut [u8], at: usize, f: Feature, x: State)
+    requires { ⌜ at + length (subTlv f x) ≤ length (now out) ⌝ }
+    ensures { λ _. ⌜ now (out .exit) ≡ sets (now (out .entry)) at (subTlv f x) ⌝ }
+{
+    let s = x.setting;
+    if !s.advertise {
+        return;
+    }
+    let o = x.outcome;
+    let p = s.desired;
+    let kind = parameters::feature_number(f);
+    let bits = flags_of(x);
+    put_parts(out, at, kind, o.oper, x.max, bits, p);
+}
