@@ -1,0 +1,29 @@
+-- Demand 3, both halves, of every two cards that have just started. Assumes nothing.
+use Rattle.exchange.specs.Rounds.{Ends, rounds, lossyRounds}
+use Rattle.exchange.specs.Demand3.{Begun, Demand3}
+use Rattle.exchange.proofs.View.{settings}
+use Rattle.exchange.proofs.Pairs.{begin}
+use Rattle.exchange.proofs.Settling.{after-five}
+use Rattle.exchange.proofs.Idle.{run-idle}
+use Rattle.exchange.proofs.Losses.{run-truthful}
+use Rattle.exchange.proofs.Simulation.{follows-all}
+use Rattle.exchange.proofs.Started.{like-begun}
+use Rattle.exchange.proofs.Claims.{fit, agreed, truthful}
+
+pub demand3 : (c : Ends) → Begun c → Demand3 c
+demand3 c h =
+    let s = settings (c .l .port) in
+    let t = settings (c .r .port) in
+    let fit-s = fit (c .l .port) (h .l .sound) in
+    let fit-t = fit (c .r .port) (h .r .sound) in
+    record {
+      settles = λ rs p n.
+          let k = follows-all s t (rounds rs) c (begin s t) p (like-begun c h) in
+          let z = after-five s t fit-s fit-t rs n in
+          let i = run-idle s t (rounds rs) in
+          (agreed (c .l .port) (c .r .port) _ _ (k .view-l) _ _ _ (z .0) (i .0), agreed (c .r .port) (c .l .port) _ _ (k .view-r) _ _ _ (z .1) (i .1));
+      truthful = λ rs p.
+          let k = follows-all s t (lossyRounds rs) c (begin s t) p (like-begun c h) in
+          let z = run-truthful s t fit-s fit-t (lossyRounds rs) in
+          (truthful (c .l .port) (c .r .port) _ _ (k .view-l) (z .at-l), truthful (c .r .port) (c .l .port) _ _ (k .view-r) (z .at-r));
+    }

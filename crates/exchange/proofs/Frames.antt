@@ -1,0 +1,136 @@
+-- What a sound port writes is read as its message. Assumes nothing.
+use Prim.Native.Nat.{ℕ, _+_, _<_, _≤_, _^_}
+use native.Mathlib.Omega.{arith}
+use mathlib.Core.Path.{_≡_, refl, ap, _∙_}
+use mathlib.Core.Bool.{Bool, true, false}
+use mathlib.Core.List.{List, [], _++_}
+use lib.ListN.{length, length-append}
+use borrow.Author.Tests.{eqb-true}
+use Rattle.octets.specs.Words.{if_then_else_}
+use Rattle.octets.specs.Octets.{at, number4, octets4}
+use Rattle.octets.specs.Laws.{and-left}
+use Rattle.tlv.specs.declared.Contents.{Contents}
+use Rattle.tlv.specs.declared.Frame.the-variants.{Accepted}
+use Rattle.tlv.specs.Layout.{head, fixedOctets, frameHead, walked, readFrame, valueOf}
+use Rattle.tlv.specs.Values.{Counted, Values, Part, Parts, partsOctets, partCounted, partsValues, LaidOut}
+use Rattle.tlv.specs.Written.{ReadBack, read-parts}
+use Rattle.parameters.specs.declared.Feature.{Feature}
+use Rattle.parameters.specs.declared.Feature.the-variants.{Groups, Flow, Applications}
+use Rattle.parameters.specs.Parameters.{featureNumber, validGroups, validFlow, valid, content}
+use Rattle.parameters.specs.FeatureLaws.{valid-length}
+use Rattle.feature.specs.declared.State.{State}
+use Rattle.feature.specs.Outcome.{Received}
+use Rattle.feature.specs.State.{value, headed, subTlv}
+use Rattle.port.specs.declared.Port.{Port}
+use Rattle.port.specs.Writing.{controlValue, subTlvs, frame}
+use Rattle.port.specs.Handling.{hasOf, message}
+use Rattle.port.specs.Sound.{SoundState, SoundPort}
+use Rattle.exchange.proofs.Core as core
+use Rattle.exchange.proofs.View.{settings, view}
+
+-- ---- the frame by its parts
+
+abbrev partOf : State → Part
+partOf x = record { advertised = x .setting .advertise; value = value x }
+
+abbrev partsOf : Port → Parts
+partsOf q =
+    record { control = controlValue (q .control); groups = partOf (q .groups); flow = partOf (q .flow); applications = partOf (q .applications) }
+
+parts-written : (q : Port) → subTlvs q ≡ partsOctets (partsOf q)
+unfolding subTlvs subTlv partsOctets featureNumber
+parts-written q = refl
+
+frame-written : (q : Port) → frame q ≡ frameHead (length (partsOctets (partsOf q))) ++ partsOctets (partsOf q)
+unfolding frame
+frame-written q = ap (λ o. head 127 (4 + length o) ++ fixedOctets ++ o) (parts-written q)
+
+-- ---- lengths
+
+-- the longest parameters of each feature
+abbrev longest : Feature → ℕ
+longest Groups = 13
+longest Flow = 2
+longest Applications = 96
+
+valid-longest : (f : Feature) (o : List ℕ) → valid f o ≡ true → length o ≤ longest f
+unfolding valid validGroups validFlow
+valid-longest Groups o e = let l : length o ≡ 13 = eqb-true (length o) 13 (and-left _ _ (and-left _ _ (and-left _ _ e))) in omega arith
+valid-longest Flow o e = let l : length o ≡ 2 = eqb-true (length o) 2 (and-left _ _ e) in omega arith
+valid-longest Applications o e = valid-length Applications o e
+
+sub-length : (f : Feature) (x : State) → SoundState f x → length (subTlv f x) ≤ 6 + longest f
+unfolding subTlv
+sub-length f x h = by (x .setting .advertise)
+  where
+    by : (b : Bool) →
+        length (if b then headed (featureNumber f) (value x) else []) ≤ 6 + longest f
+    by true = omega (arith, valid-longest f (content (x .setting .desired)) (h .setting .desired .valid))
+    by false = omega arith
+
+subs-length : (q : Port) → SoundPort q → length (subTlvs q) ≤ 141
+unfolding subTlvs
+subs-length q h =
+    omega (
+      arith,
+      length-append (subTlv Groups (q .groups)) (subTlv Flow (q .flow) ++ subTlv Applications (q .applications)),
+      length-append (subTlv Flow (q .flow)) (subTlv Applications (q .applications)),
+      sub-length Groups (q .groups) (h .features Groups),
+      sub-length Flow (q .flow) (h .features Flow),
+      sub-length Applications (q .applications) (h .features Applications),
+    )
+
+-- "Longest frame 147 octets."
+pub frame-length : (q : Port) → SoundPort q → length (frame q) ≤ 147
+unfolding frame
+frame-length q h = omega (arith, subs-length q h)
+
+-- ---- reading it
+
+number-read : (n : ℕ) → n < 2 ^ 32 → number4 (octets4 n) 0 ≡ n
+number-read n h = omega arith
+
+module _ (q : Port) (h : SoundPort q) where
+  laid-out : LaidOut (partsOf q)
+  laid-out = record { long = refl; versions = h .control .oper; groups = refl; flow = refl; applications = refl }
+
+  pub read-back : ReadBack (frame q) (partsValues (partsOf q))
+  read-back =
+      let k = subs-length q h in
+      rw (frame-written q) (read-parts (partsOf q) (rw (← parts-written q) (omega arith)) laid-out)
+
+  abbrev pub contents : Contents
+  contents = walked (frame q) .contents
+
+  pub accepted : readFrame (frame q) ≡ Accepted contents
+  accepted = read-back .accepted
+
+  pub one-control : contents .control .count ≡ 1
+  one-control = ap (λ (x : Values). x .control .count) (read-back .values)
+
+  control-read : valueOf (frame q) (contents .control) ≡ controlValue (q .control)
+  control-read = ap (λ (x : Values). x .control .value) (read-back .values)
+
+  part-read : (x : State) (c : Counted) → c ≡ partCounted (partOf x) → (b : Bool) → x .setting .advertise ≡ b →
+      _≡_ {A = Received} (record { count = c .count; value = c .value })
+      (core.written b (record { max = x .max; setting = x .setting }) (x .outcome))
+  unfolding core.written
+  part-read x c e true a = rw (e, a)
+  part-read x c e false a = rw (e, a)
+
+  has-read : (f : Feature) → hasOf (frame q) contents f ≡ core.message (settings q) (view q) .has f
+  unfolding core.message
+  has-read Groups = part-read (q .groups) _ (ap (λ (x : Values). x .groups) (read-back .values)) _ refl
+  has-read Flow = part-read (q .flow) _ (ap (λ (x : Values). x .flow) (read-back .values)) _ refl
+  has-read Applications = part-read (q .applications) _ (ap (λ (x : Values). x .applications) (read-back .values)) _ refl
+
+  pub message-read : message (frame q) contents ≡ core.message (settings q) (view q)
+  unfolding core.message
+  message-read =
+      λ i. record {
+        oper = at (control-read i) 0;
+        max = at (control-read i) 1;
+        seq = (ap (λ v. number4 v 2) control-read ∙ number-read (q .control .seq) (h .control .seq)) i;
+        ack = (ap (λ v. number4 v 6) control-read ∙ number-read (q .control .ack) (h .control .ack)) i;
+        has = λ f. has-read f i;
+      }

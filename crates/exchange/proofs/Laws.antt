@@ -1,0 +1,63 @@
+-- Laws of the rules, once for all features: lower of two, the Syncd law, and that no Error depends on an error flag received.
+-- Assumes nothing.
+use Prim.Native.Nat.{ℕ, _≤_}
+use mathlib.Core.Path.{_≡_, refl, sym, ap, _∙_}
+use mathlib.Core.Logic.{_⊎_, inl, inr, ⊎-elim, _↔_}
+use mathlib.Core.Bool.{Bool, true, false, not, _&&_, or-true}
+use lib.ListN.{length}
+use borrow.Author.Tests.{le-ltb, eq-eqb, eqb-true}
+use Rattle.octets.specs.Words.{if_then_else_, _is_}
+use Rattle.octets.specs.Laws.{and-left, and-right}
+use Rattle.parameters.specs.declared.Feature.{Feature}
+use Rattle.parameters.specs.Parameters.{valid}
+use Rattle.feature.specs.declared.Reason.the-variants.{Bad, Waiting}
+use Rattle.feature.specs.declared.Setting.{Setting}
+use Rattle.feature.specs.declared.Outcome.{Outcome}
+use Rattle.feature.specs.declared.State.{State}
+use Rattle.feature.specs.Outcome.{Received, operOf, maxOf, parametersOf, lower, heldPeer, withoutPeer, settled, outcome}
+use Rattle.feature.specs.State.{acknowledged}
+use Rattle.port.specs.Sound.{SoundParameters}
+use Rattle.exchange.specs.Rounds.{Side, ruled}
+use Rattle.exchange.proofs.Tests.{or-cases}
+use Rattle.exchange.proofs.Outcomes.{settled-oper, settled-error, alone-absent, alone-met}
+
+-- one readable sub-TLV: Oper becomes the lower of the two Max, whatever was received
+pub lower-of-two : (f : Feature) (max : ℕ) (s : Setting) (oper : ℕ) (r : Received) →
+    r .count ≡ 1 → 4 ≤ length (r .value) → operOf (r .value) ≤ maxOf (r .value) → outcome f max s oper r .oper ≡ lower max (maxOf (r .value))
+unfolding outcome
+lower-of-two f max s oper r one long within =
+    simp (one, le-ltb (length (r .value)) 4 long, le-ltb (maxOf (r .value)) (operOf (r .value)) within)
+    (by (operOf (r .value) is lower max (maxOf (r .value))) (valid f (parametersOf (r .value))))
+  where
+    by : (a b : Bool) →
+        (if not a then withoutPeer s Waiting (lower max (maxOf (r .value))) false
+        else if not b then withoutPeer s Bad (lower max (maxOf (r .value))) true
+        else settled f s (lower max (maxOf (r .value))) (heldPeer f (r .value))) .oper
+        ≡ lower max (maxOf (r .value))
+    by false b = refl
+    by true false = refl
+    by true true = settled-oper f s (lower max (maxOf (r .value))) (heldPeer f (r .value))
+
+-- a feature is Syncd after step 3 exactly if it was, or if its FeatureSeqNo equals both RcvdAckNo and SeqNo
+pub syncd-law : (rcvd seq : ℕ) (x : State) →
+    (acknowledged rcvd seq x .syncd ≡ true) ↔ ((x .syncd ≡ true) ⊎ ((x .sequence ≡ rcvd) × (x .sequence ≡ seq)))
+unfolding acknowledged
+syncd-law rcvd seq x = (
+  λ e. ⊎-elim inl
+      (λ h. inr
+      (eqb-true (x .sequence) rcvd (and-left (x .sequence is rcvd) (x .sequence is seq) h), eqb-true (x .sequence) seq (and-right (x .sequence is rcvd) (x .sequence is seq) h)))
+      (or-cases (x .syncd) (x .sequence is rcvd && x .sequence is seq) e),
+  ⊎-elim (λ h. rw h) (λ h. rw (eq-eqb (x .sequence) rcvd (h .0), eq-eqb (x .sequence) seq (h .1)) (or-true (x .syncd))),
+)
+
+-- of two settings alone, the Error is the same whatever the peer's error flag
+pub error-alone : (f : Feature) (own peer : Side) (d e : Bool) → SoundParameters f (peer .setting .desired) →
+    ruled f own peer d .error ≡ ruled f own peer e .error
+error-alone f own peer d e h = by (peer .setting .advertise) refl
+  where
+    by : (b : Bool) → peer .setting .advertise ≡ b → ruled f own peer d .error ≡ ruled f own peer e .error
+    by false a = ap (λ (x : Outcome). x .error) (alone-absent f own peer d a ∙ sym (alone-absent f own peer e a))
+    by true a =
+        ap (λ (x : Outcome). x .error) (alone-met f own peer d h a)
+        ∙ settled-error f (own .setting) _ peer d e
+        ∙ sym (ap (λ (x : Outcome). x .error) (alone-met f own peer e h a))

@@ -1,0 +1,31 @@
+-- Demand 3, and what stands beside it. Assumes nothing.
+
+-- the exchange of messages
+pub mod Tests
+pub mod Core
+pub mod Outcomes
+pub mod Numbers
+pub mod Stages
+pub mod FirstRound
+pub mod LaterRounds
+pub mod Pairs
+pub mod Settling
+pub mod Idle
+pub mod Losses
+pub mod Fixed
+-- ports, frames and cards
+pub mod Steps
+pub mod View
+pub mod Frames
+pub mod Calls
+pub mod Soundness
+pub mod Simulation
+pub mod Started
+pub mod Claims
+-- the theorems
+pub mod Demand3
+pub mod Creation
+pub mod NotEmpty
+pub mod Tight
+pub mod Steady
+pub mod Laws

@@ -1,0 +1,214 @@
+-- The laws of the outcome rules for a sub-TLV that a port wrote, once for all features. Assumes nothing.
+use Prim.Native.Nat.{ℕ, _≤_, _%_, min}
+use native.Mathlib.Nat.{min-le-left, min-le-right, le-refl}
+use native.Mathlib.Omega.{arith}
+use mathlib.Core.Path.{_≡_, refl, sym, ap, _∙_}
+use mathlib.Core.Bool.{Bool, true, false, not, _&&_, Bool·beq}
+use mathlib.Core.List.{_∷_}
+use lib.ListN.{length}
+use borrow.Author.Tests.{le-ltb, eq-eqb}
+use Rattle.octets.specs.Words.{if_then_else_, _below_, _atmost_, _is_}
+use Rattle.parameters.specs.declared.Feature.{Feature}
+use Rattle.parameters.specs.Parameters.{compatible, content}
+use Rattle.feature.specs.declared.Setting.{Setting}
+use Rattle.feature.specs.declared.Peer.{Peer}
+use Rattle.feature.specs.declared.Outcome.{Outcome}
+use Rattle.feature.specs.declared.Reason.the-variants.{Absent, Bad, Waiting, Disabled, Agreed, NotCompatible}
+use Rattle.feature.specs.Outcome.{Received, noPeer, withoutPeer, withPeer, unwilling, settled, outcome}
+use Rattle.feature.specs.State.{flags}
+use Rattle.port.specs.Sound.{SoundParameters}
+use Rattle.exchange.specs.Rounds.{Side, receivedAlone, ruled}
+use Rattle.exchange.proofs.Core.{written, changed}
+use Rattle.exchange.proofs.Tests.{is-same, beq-same}
+
+-- the version that the two settings lead to, if the peer advertises
+unfoldable pub version : Bool → Side → Side → ℕ
+version false own peer = own .max
+version true own peer = min (own .max) (peer .max)
+
+pub version-le : (adv : Bool) (own peer : Side) → version adv own peer ≤ own .max
+unfolding version
+version-le false own peer = le-refl _
+version-le true own peer = min-le-left _ _
+
+-- ---- rules 6 to 9, over their three tests: both enabled, willing equal, compatible
+
+unfoldable pub judged : Bool → Bool → Bool → Setting → ℕ → Peer → Outcome
+judged a b c s oper p =
+    if not a then withPeer Disabled oper false false p (s .desired)
+    else if not b then withPeer Agreed oper false (not (p .error)) p (unwilling s p)
+    else if c then withPeer Agreed oper false (not (p .error)) p (s .desired)
+    else withPeer NotCompatible oper true false p (s .desired)
+
+judged-oper : (a b c : Bool) (s : Setting) (oper : ℕ) (p : Peer) → judged a b c s oper p .oper ≡ oper
+unfolding judged
+judged-oper false b c s oper p = refl
+judged-oper true false c s oper p = refl
+judged-oper true true true s oper p = refl
+judged-oper true true false s oper p = refl
+
+-- the Error does not depend on the peer's error flag
+judged-error : (a b c : Bool) (s : Setting) (oper : ℕ) (p q : Peer) → judged a b c s oper p .error ≡ judged a b c s oper q .error
+unfolding judged
+judged-error false b c s oper p q = refl
+judged-error true false c s oper p q = refl
+judged-error true true true s oper p q = refl
+judged-error true true false s oper p q = refl
+
+judged-peer : (a b c : Bool) (s : Setting) (oper : ℕ) (p : Peer) → judged a b c s oper p .peer ≡ p
+unfolding judged
+judged-peer false b c s oper p = refl
+judged-peer true false c s oper p = refl
+judged-peer true true true s oper p = refl
+judged-peer true true false s oper p = refl
+
+pub settled-by : (f : Feature) (s : Setting) (oper : ℕ) (p : Peer) →
+    settled f s oper p
+    ≡ judged (s .enable && p .enable) (Bool·beq (s .willing) (p .willing)) (compatible f (content (s .desired)) (content (p .parameters))) s oper p
+unfolding settled judged
+settled-by f s oper p = refl
+
+pub settled-oper : (f : Feature) (s : Setting) (oper : ℕ) (p : Peer) → settled f s oper p .oper ≡ oper
+settled-oper f s oper p = rw settled-by (judged-oper _ _ _ s oper p)
+
+pub settled-peer : (f : Feature) (s : Setting) (oper : ℕ) (p : Peer) → settled f s oper p .peer ≡ p
+settled-peer f s oper p = rw settled-by (judged-peer _ _ _ s oper p)
+
+-- what is held of a peer with an error flag
+abbrev pub heldOf : Side → Bool → Peer
+heldOf x error = record { held = true; enable = x .setting .enable; willing = x .setting .willing; error = error; parameters = x .setting .desired }
+
+pub settled-error : (f : Feature) (s : Setting) (oper : ℕ) (peer : Side) (e d : Bool) →
+    settled f s oper (heldOf peer e) .error ≡ settled f s oper (heldOf peer d) .error
+settled-error f s oper peer e d = simp settled-by (judged-error _ _ _ s oper _ _)
+
+-- ---- flags are read as they are written
+
+flag-enable : (en wi er : Bool) → (128 atmost flags en wi er) ≡ en
+flag-enable true true true = refl
+flag-enable true true false = refl
+flag-enable true false true = refl
+flag-enable true false false = refl
+flag-enable false true true = refl
+flag-enable false true false = refl
+flag-enable false false true = refl
+flag-enable false false false = refl
+
+flag-willing : (en wi er : Bool) → (64 atmost flags en wi er % 128) ≡ wi
+flag-willing true true true = refl
+flag-willing true true false = refl
+flag-willing true false true = refl
+flag-willing true false false = refl
+flag-willing false true true = refl
+flag-willing false true false = refl
+flag-willing false false true = refl
+flag-willing false false false = refl
+
+flag-error : (en wi er : Bool) → (32 atmost flags en wi er % 64) ≡ er
+flag-error true true true = refl
+flag-error true true false = refl
+flag-error true false true = refl
+flag-error true false false = refl
+flag-error false true true = refl
+flag-error false true false = refl
+flag-error false false true = refl
+flag-error false false false = refl
+
+-- ---- rules 1 to 9 for a sub-TLV that a port wrote
+
+abbrev pub sent1 : ℕ → Side → Bool → Received
+sent1 oper peer error =
+    record { count = 1; value = oper ∷ peer .max ∷ flags (peer .setting .enable) (peer .setting .willing) error ∷ 0 ∷ content (peer .setting .desired) }
+
+-- rules 3, 4 and 5 over their tests: Oper is above Max, Oper is the lower of the two Max, the parameters are valid
+unfoldable ranked : Bool → Bool → Bool → Feature → Side → ℕ → ℕ → Peer → Outcome
+ranked above same good f own old low p =
+    if above then withoutPeer (own .setting) Bad old true
+    else if not same then withoutPeer (own .setting) Waiting low false
+    else if not good then withoutPeer (own .setting) Bad low true
+    else settled f (own .setting) low p
+
+outcome-by : (f : Feature) (own peer : Side) (old oper : ℕ) (error : Bool) → SoundParameters f (peer .setting .desired) →
+    outcome f (own .max) (own .setting) old (sent1 oper peer error)
+    ≡ ranked (peer .max below oper) (oper is min (own .max) (peer .max)) true f own old (min (own .max) (peer .max)) (heldOf peer error)
+unfolding outcome ranked
+outcome-by f own peer old oper error h =
+    simp (
+      le-ltb (length (sent1 oper peer error .value)) 4 (omega arith),
+      flag-enable (peer .setting .enable) (peer .setting .willing) error,
+      flag-willing (peer .setting .enable) (peer .setting .willing) error,
+      flag-error (peer .setting .enable) (peer .setting .willing) error,
+      h .valid,
+      ← h .whole,
+    )
+
+ranked-oper : (b : Bool) (f : Feature) (own : Side) (old low : ℕ) (p : Peer) → ranked false b true f own old low p .oper ≡ low
+unfolding ranked
+ranked-oper false f own old low p = refl
+ranked-oper true f own old low p = settled-oper f (own .setting) low p
+
+-- the peer that is held afterwards, if one is
+ranked-peer : (a b : Bool) (f : Feature) (own : Side) (old low : ℕ) (p : Peer) (P : Peer → Type 0) → P noPeer → P p → P (ranked a b true f own old low p .peer)
+unfolding ranked
+ranked-peer true b f own old low p P n h = n
+ranked-peer false false f own old low p P n h = n
+ranked-peer false true f own old low p P n h = rw settled-peer h
+
+pub peer-is : (adv : Bool) (f : Feature) (own peer : Side) (old : ℕ) (o : Outcome) (P : Peer → Type 0) → SoundParameters f (peer .setting .desired) →
+    P noPeer → P (heldOf peer (o .error)) → P (outcome f (own .max) (own .setting) old (written adv peer o) .peer)
+unfolding outcome written
+peer-is false f own peer old o P h n k = n
+peer-is true f own peer old o P h n k = rw (outcome-by f own peer old (o .oper) (o .error) h) (ranked-peer _ _ f own old _ (heldOf peer (o .error)) P n k)
+
+-- lower of two, whatever Oper came
+pub lower-of-two : (adv : Bool) (f : Feature) (own peer : Side) (old : ℕ) (o : Outcome) → SoundParameters f (peer .setting .desired) →
+    (adv ≡ true → o .oper ≤ peer .max) → outcome f (own .max) (own .setting) old (written adv peer o) .oper ≡ version adv own peer
+unfolding outcome written version
+lower-of-two false f own peer old o h k = refl
+lower-of-two true f own peer old o h k = rw (outcome-by f own peer old (o .oper) (o .error) h, le-ltb (peer .max) (o .oper) (k refl)) (ranked-oper _ f own old _ _)
+
+-- the received Oper is the lower of the two Max
+in-step : (f : Feature) (own peer : Side) (old oper : ℕ) (error : Bool) → SoundParameters f (peer .setting .desired) → oper ≡ min (own .max) (peer .max) →
+    outcome f (own .max) (own .setting) old (sent1 oper peer error) ≡ settled f (own .setting) (min (own .max) (peer .max)) (heldOf peer error)
+unfolding ranked
+in-step f own peer old oper error h e =
+    let k : oper ≤ peer .max = rw e (min-le-right _ _) in
+    outcome-by f own peer old oper error h ∙ simp (le-ltb (peer .max) oper k, eq-eqb oper (min (own .max) (peer .max)) e)
+
+-- the rules of two settings alone, where the peer advertises or not
+pub alone-absent : (f : Feature) (own peer : Side) (error : Bool) → peer .setting .advertise ≡ false →
+    ruled f own peer error ≡ withoutPeer (own .setting) Absent (own .max) false
+unfolding ruled receivedAlone outcome
+alone-absent f own peer error e = rw e
+
+pub alone-met : (f : Feature) (own peer : Side) (error : Bool) → SoundParameters f (peer .setting .desired) → peer .setting .advertise ≡ true →
+    ruled f own peer error ≡ settled f (own .setting) (min (own .max) (peer .max)) (heldOf peer error)
+unfolding ruled receivedAlone
+alone-met f own peer error h e = rw e (in-step f own peer (own .max) (min (own .max) (peer .max)) error h refl)
+
+-- the peer runs at the version already: the Error is final
+pub error-final : (adv : Bool) (f : Feature) (own peer : Side) (old : ℕ) (o : Outcome) → SoundParameters f (peer .setting .desired) →
+    peer .setting .advertise ≡ adv → (adv ≡ true → o .oper ≡ min (own .max) (peer .max)) →
+    outcome f (own .max) (own .setting) old (written adv peer o) .error ≡ ruled f own peer false .error
+unfolding written outcome
+error-final false f own peer old o h a k = rw (alone-absent f own peer false a)
+error-final true f own peer old o h a k =
+    ap (λ (x : Outcome). x .error) (in-step f own peer old (o .oper) (o .error) h (k refl))
+    ∙ settled-error f (own .setting) _ peer (o .error) false
+    ∙ sym (ap (λ (x : Outcome). x .error) (alone-met f own peer false h a))
+
+-- and its Error is final too: the whole outcome is
+pub outcome-final : (adv : Bool) (f : Feature) (own peer : Side) (old : ℕ) (o : Outcome) (error : Bool) → SoundParameters f (peer .setting .desired) →
+    peer .setting .advertise ≡ adv → (adv ≡ true → o .oper ≡ min (own .max) (peer .max)) → (adv ≡ true → o .error ≡ error) →
+    outcome f (own .max) (own .setting) old (written adv peer o) ≡ ruled f own peer error
+unfolding written outcome
+outcome-final false f own peer old o error h a k e = sym (alone-absent f own peer error a)
+outcome-final true f own peer old o error h a k e =
+    in-step f own peer old (o .oper) (o .error) h (k refl)
+    ∙ ap (λ x. settled f (own .setting) (min (own .max) (peer .max)) (heldOf peer x)) (e refl)
+    ∙ sym (alone-met f own peer error h a)
+
+-- no change: Oper and Error are the same
+pub unchanged : (o n : Outcome) → o .oper ≡ n .oper → o .error ≡ n .error → changed o n ≡ false
+unfolding changed
+unchanged o n e d = rw (e, d, is-same (n .oper), beq-same (n .error))

@@ -1,0 +1,123 @@
+-- Two cards follow the exchange of messages, call by call. Assumes nothing.
+use Prim.Native.Nat.{ℕ}
+use mathlib.Core.Path.{_≡_, sym, ap, _∙_, subst}
+use mathlib.Core.Bool.{true, false}
+use mathlib.Core.List.{List, [], _∷_}
+use mathlib.Core.Option.{Option, none, some}
+use Rattle.port.specs.declared.Port.{Port}
+use Rattle.port.specs.Parts.{running}
+use Rattle.port.specs.PortEvents.{completed}
+use Rattle.port.specs.Writing as writing
+use Rattle.port.specs.Handling.{Message, once}
+use Rattle.port.specs.Handling as handling
+use Rattle.port.specs.Sound.{SoundPort}
+use Rattle.card.specs.declared.Card.{Card}
+use Rattle.card.specs.Card.{handled}
+use Rattle.exchange.specs.Rounds.{left, right, write, frame, Call, refused, writes, handles, Ends, afterWrite, onItsWay, delivered, exec, execAll, Accepts, RefusesWrite, Answers, Proper}
+use Rattle.exchange.proofs.Core.{Settings, Core, message, recv}
+use Rattle.exchange.proofs.View.{settings, view, Kept, runs-same, view-once, kept-once}
+use Rattle.exchange.proofs.Calls.{write-leaves, refused-stays, delivered-port}
+use Rattle.exchange.proofs.Soundness.{once-kept, completed-sound}
+use Rattle.exchange.proofs.Pairs.{Pair, given, step, run}
+
+-- a sound port that runs with the settings `s`, while several neighbours are not flagged
+pub record Runs (s : Settings) (p : Port) : Type 0 where
+  pub sound : SoundPort p
+  pub runs : running p ≡ true
+  pub single : p .several ≡ false
+  pub set : settings p ≡ s
+
+-- octets on their way, and the message that they are
+abbrev pub Link : Settings → Option (List ℕ) → Option Message → Type 0
+Link s none none = Unit {0}
+Link s none (some m) = ⊥
+Link s (some o) none = ⊥
+Link s (some o) (some m) = (q : Port) × Runs s q × (o ≡ writing.frame q) × (m ≡ message s (view q))
+
+-- ---- one end
+
+pub runs-next : (s t : Settings) (p q : Port) → Runs s p → Runs t q → Runs s (completed p (once (message (settings q) (view q)) p))
+unfolding message
+runs-next s t p q h k =
+    let m : Message = message (settings q) (view q) in
+    let e : Kept p (completed p (once m p)) = kept-once m p in
+    record {
+      sound = completed-sound p (once m p) (once-kept p (h .sound) m (k .sound .control .seq) (k .sound .control .ack));
+      runs = runs-same p (completed p (once m p)) e ∙ h .runs;
+      single = e .several ∙ h .single;
+      set = e .settings ∙ h .set;
+    }
+
+-- an end that is given what its peer wrote
+given-next : (own peer : Settings) (c : Card) (b : Core) (o : Option (List ℕ)) (m : Option Message) →
+    Runs own (c .port) → view (c .port) ≡ b → Link peer o m → Runs own (delivered c o .port) × (view (delivered c o .port) ≡ given own b m)
+unfolding delivered given handled
+given-next own peer c b none none h v k = (h, v)
+given-next own peer c b none (some m) h v k = absurd k
+given-next own peer c b (some o) none h v k = absurd k
+given-next own peer c b (some o) (some m) h v k =
+    let p : Port = c .port in
+    let q : Port = k .0 in
+    let g : message (settings q) (view q) ≡ m = ap (λ (x : Settings). message x (view q)) (k .1 .set) ∙ sym (k .3) in
+    let e : handling.handled p o .port ≡ completed p (once (message (settings q) (view q)) p) =
+    ap (λ x. handling.handled p x .port) (k .2) ∙ delivered-port p q (h .runs) (h .single) (k .1 .sound) in (
+      subst (Runs own) (sym e) (runs-next own peer p q h (k .1)),
+      ap view e ∙ view-once (message (settings q) (view q)) p ∙ (λ i. recv (h .set i) (v i) (g i)),
+    )
+
+-- what a write leaves on its way
+write-link : (own : Settings) (c : Card) (b : Core) (out : List ℕ) (o : Option (List ℕ)) → Runs own (c .port) → view (c .port) ≡ b → Accepts c out →
+    Link own (onItsWay c out o) (some (message own b))
+unfolding afterWrite
+write-link own c b out o h v a = rw (a .1) (c .port, h, write-leaves (c .port) out (a .0) (a .1), ap (message own) (sym v))
+
+write-none : (c : Card) (out : List ℕ) (o : Option (List ℕ)) → RefusesWrite c out → onItsWay c out o ≡ o
+unfolding afterWrite
+write-none c out o a = rw (a .1)
+
+-- ---- both ends
+
+module _ (s t : Settings) where
+  pub record Like (c : Ends) (d : Pair) : Type 0 where
+    pub runs-l : Runs s (c .l .port)
+    pub runs-r : Runs t (c .r .port)
+    pub view-l : view (c .l .port) ≡ d .l
+    pub view-r : view (c .r .port) ≡ d .r
+    pub link-l : Link s (c .from-l) (d .from-l)
+    pub link-r : Link t (c .from-r) (d .from-r)
+
+  pub follows : (x : Call) (c : Ends) (d : Pair) → Answers x c → Like c d → Like (exec x c) (step s t x d)
+  unfolding exec step
+  follows (refused (write left out)) c d a h = rw (write-none (c .l) out (c .from-l) a) h
+  follows (refused (write right out)) c d a h = rw (write-none (c .r) out (c .from-r) a) h
+  follows (refused (frame left o)) c d a h = rw (refused-stays (c .l) o (a .0) (a .1)) h
+  follows (refused (frame right o)) c d a h = rw (refused-stays (c .r) o (a .0) (a .1)) h
+  follows (writes left out) c d a h =
+      record {
+        runs-l = h .runs-l;
+        runs-r = h .runs-r;
+        view-l = h .view-l;
+        view-r = h .view-r;
+        link-l = write-link s (c .l) (d .l) out (c .from-l) (h .runs-l) (h .view-l) a;
+        link-r = h .link-r;
+      }
+  follows (writes right out) c d a h =
+      record {
+        runs-l = h .runs-l;
+        runs-r = h .runs-r;
+        view-l = h .view-l;
+        view-r = h .view-r;
+        link-l = h .link-l;
+        link-r = write-link t (c .r) (d .r) out (c .from-r) (h .runs-r) (h .view-r) a;
+      }
+  follows (handles left) c d a h =
+      let x = given-next s t (c .l) (d .l) (c .from-r) (d .from-r) (h .runs-l) (h .view-l) (h .link-r) in
+      record { runs-l = x .0; runs-r = h .runs-r; view-l = x .1; view-r = h .view-r; link-l = h .link-l; link-r = h .link-r }
+  follows (handles right) c d a h =
+      let x = given-next t s (c .r) (d .r) (c .from-l) (d .from-l) (h .runs-r) (h .view-r) (h .link-l) in
+      record { runs-l = h .runs-l; runs-r = x .0; view-l = h .view-l; view-r = x .1; link-l = h .link-l; link-r = h .link-r }
+
+  pub follows-all : (xs : List Call) (c : Ends) (d : Pair) → Proper xs c → Like c d → Like (execAll xs c) (run s t xs d)
+  unfolding execAll run
+  follows-all [] c d a h = h
+  follows-all (x ∷ xs) c d a h = follows-all xs (exec x c) (step s t x d) (a .1) (follows x c d (a .0) h)

@@ -1,0 +1,76 @@
+-- Two ends that have just started follow two ends of messages that have. Assumes nothing.
+use Prim.Native.Nat.{ℕ}
+use mathlib.Core.Path.{_≡_, refl, sym, ap, _∙_}
+use mathlib.Core.Bool.{Bool, true, false}
+use Rattle.octets.specs.Words.{if_then_else_}
+use Rattle.parameters.specs.declared.Feature.{Feature}
+use Rattle.parameters.specs.declared.Feature.the-variants.{Groups, Flow, Applications}
+use Rattle.feature.specs.declared.Setting.{Setting}
+use Rattle.feature.specs.State.{freshAt, fresh, stopped}
+use Rattle.port.specs.declared.Port.{Port}
+use Rattle.port.specs.Parts.{featureOf, withFeatures, running}
+use Rattle.port.specs.PortEvents.{freshParts, freshPort, sent}
+use Rattle.card.specs.declared.Card.{Card}
+use Rattle.exchange.specs.Rounds.{sideOf, Ends}
+use Rattle.exchange.specs.Demand3.{JustStarted, Begun}
+use Rattle.exchange.proofs.Core as core
+use Rattle.exchange.proofs.Core.{machineOf, freshMachine, started}
+use Rattle.exchange.proofs.Steps.{sideOfState}
+use Rattle.exchange.proofs.View.{settings, view, view-sent}
+use Rattle.exchange.proofs.Pairs.{begin}
+use Rattle.exchange.proofs.Simulation.{Runs, Like}
+
+pub fresh-side : (max : ℕ) (s : Setting) (b : Bool) → s .advertise ≡ b → sideOfState (fresh max s) ≡ record { max = max; setting = s }
+unfolding freshAt
+fresh-side max s true e = rw e
+fresh-side max s false e = rw e
+
+module _ (p : Port) where
+  pub fresh-settings : settings (freshParts p) ≡ settings p
+  fresh-settings = λ i. record { max = p .control .max; of = λ f. sides f i }
+    where
+      sides : (f : Feature) → sideOf (freshParts p) f ≡ sideOf p f
+      sides Groups = fresh-side (p .groups .max) (p .groups .setting) _ refl
+      sides Flow = fresh-side (p .flow .max) (p .flow .setting) _ refl
+      sides Applications = fresh-side (p .applications .max) (p .applications .setting) _ refl
+
+  fresh-machine : (f : Feature) → machineOf (featureOf (freshParts p) f) ≡ freshMachine (sideOf p f)
+  fresh-machine Groups = refl
+  fresh-machine Flow = refl
+  fresh-machine Applications = refl
+
+  pub fresh-runs : running p ≡ true → freshPort p ≡ sent (freshParts p)
+  unfolding freshPort
+  fresh-runs r = ap (λ b. if b then sent (freshParts p) else withFeatures (freshParts p) (λ f. stopped (featureOf (freshParts p) f))) r
+
+  view-fresh : view (sent (freshParts p)) ≡ started (settings p)
+  unfolding started
+  view-fresh =
+      view-sent (freshParts p)
+      ∙ (λ i. record {
+        oper = p .control .max;
+        seq = core.sent (fresh-settings i) (λ f. fresh-machine f i) 0 0;
+        ack = 0;
+        rcvd = 0;
+        seen = false;
+        duplicate = false;
+        feat = λ f. fresh-machine f i;
+      })
+
+pub view-started : (c : Card) → JustStarted c → view (c .port) ≡ started (settings (c .port))
+view-started c h = ap view (sym (h .fresh) ∙ fresh-runs (c .port) (h .runs)) ∙ view-fresh (c .port)
+
+pub runs-started : (c : Card) → JustStarted c → Runs (settings (c .port)) (c .port)
+runs-started c h = record { sound = h .sound; runs = h .runs; single = h .single; set = refl }
+
+pub like-begun : (c : Ends) → Begun c → Like (settings (c .l .port)) (settings (c .r .port)) c (begin (settings (c .l .port)) (settings (c .r .port)))
+unfolding begin
+like-begun c h =
+    record {
+      runs-l = runs-started (c .l) (h .l);
+      runs-r = runs-started (c .r) (h .r);
+      view-l = view-started (c .l) (h .l);
+      view-r = view-started (c .r) (h .r);
+      link-l = rw (h .no-l) tt;
+      link-r = rw (h .no-r) tt;
+    }

@@ -1,0 +1,50 @@
+-- Demand 3: two running ends, just started. Both halves are claims about a whole list of rounds.
+use Prim.Native.Nat.{ℕ, _≤_}
+use mathlib.Core.Path.{_≡_}
+use mathlib.Core.Bool.{Bool, true, false}
+use mathlib.Core.List.{List}
+use mathlib.Core.Option.{none}
+use lib.ListN.{length}
+use Rattle.parameters.specs.declared.Feature.{Feature}
+use Rattle.feature.specs.declared.Peer.{Peer}
+use Rattle.feature.specs.Outcome.{lower}
+use Rattle.port.specs.declared.Port.{Port}
+use Rattle.port.specs.Parts.{featureOf, running}
+use Rattle.port.specs.PortEvents.{freshPort}
+use Rattle.port.specs.Sound.{SoundPort}
+use Rattle.card.specs.declared.Card.{Card}
+use Rattle.exchange.specs.Rounds.{Ends, Round, Lossy, Side, sideOf, rounds, lossyRounds, execAll, Proper, settledOutcome}
+
+-- "Just started means running, several-neighbours flag off, and the fresh state with its send rule done, whatever the log holds."
+pub record JustStarted (c : Card) : Type 0 where
+  pub sound : SoundPort (c .port)
+  pub runs : running (c .port) ≡ true
+  pub single : c .port .several ≡ false
+  pub fresh : freshPort (c .port) ≡ c .port
+
+-- two such ends, with no frame on its way
+pub record Begun (c : Ends) : Type 0 where
+  pub l : JustStarted (c .l)
+  pub r : JustStarted (c .r)
+  pub no-l : c .from-l ≡ none
+  pub no-r : c .from-r ≡ none
+
+-- First half, at an end whose port is now p, where it started as `own` and its peer as `peer`: "Acknowledged means RcvdAckNo =
+-- SeqNo; the version run at is Oper". The outcome has the version, mode, error and configuration of each feature.
+pub record Agreed (own peer p : Port) : Type 0 where
+  pub acknowledged : p .control .rcvd ≡ p .control .seq
+  pub version : p .control .oper ≡ lower (own .control .max) (peer .control .max)
+  pub outcome : (f : Feature) → featureOf p f .outcome ≡ settledOutcome f (sideOf own f) (sideOf peer f)
+
+-- Second half: what an end holds of its peer is none or exactly the peer's own
+pub record Truthful (peer p : Port) : Type 0 where
+  pub own : (f : Feature) → featureOf p f .outcome .peer .held ≡ true
+      → (featureOf p f .outcome .peer .enable ≡ featureOf peer f .setting .enable)
+      × (featureOf p f .outcome .peer .willing ≡ featureOf peer f .setting .willing)
+      × (featureOf p f .outcome .peer .parameters ≡ featureOf peer f .setting .desired)
+
+pub record Demand3 (c : Ends) : Type 0 where
+  pub settles : (rs : List Round) → Proper (rounds rs) c → 5 ≤ length rs →
+      Agreed (c .l .port) (c .r .port) (execAll (rounds rs) c .l .port) × Agreed (c .r .port) (c .l .port) (execAll (rounds rs) c .r .port)
+  pub truthful : (rs : List Lossy) → Proper (lossyRounds rs) c →
+      Truthful (c .r .port) (execAll (lossyRounds rs) c .l .port) × Truthful (c .l .port) (execAll (lossyRounds rs) c .r .port)

@@ -1,0 +1,4 @@
+pub mod Rounds
+pub mod Round
+pub mod Demand3
+pub mod Worked

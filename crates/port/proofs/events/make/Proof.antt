@@ -1,0 +1,17 @@
+-- `port::events::make` meets its contract. Assumes nothing.
+use Rattle.port.specs.EventLaws.{made-is}
+use borrow.Author.Needs.{needs}
+use Rattle.port.proofs.events.make.Statement.{statement}
+use Rattle.port.proofs.events.make.Tie as tie
+
+start-requires : tie.Need-start-requires
+start-requires c κs = search needs
+
+silent-requires : tie.Need-silent-requires
+silent-requires c κs = search needs
+
+returns : tie.Need-returns
+returns c = search made-is
+
+pub make-spec : {M : Type 1} → statement M
+make-spec = tie.close (tie.spec start-requires silent-requires returns)

@@ -1,0 +1,13 @@
+-- `port::events::refuse` meets its contract. Assumes nothing.
+use borrow.Author.Needs.{needs}
+use Rattle.port.proofs.events.refuse.Statement.{statement}
+use Rattle.port.proofs.events.refuse.Tie as tie
+
+silent-requires : tie.Need-silent-requires
+silent-requires c κs = search needs
+
+returns : tie.Need-returns
+returns c = cc
+
+pub refuse-spec : {M : Type 1} → statement M
+refuse-spec = tie.close (tie.spec silent-requires returns)

@@ -1,0 +1,240 @@
+-- The events of a port, a law for each way out of its functions: premises in the form in which a test or a call leaves them.
+-- Assumes nothing.
+use Prim.Native.Nat.{ℕ}
+use mathlib.Core.Bool.{Bool, true, false, not, _&&_, _||_, Bool·beq, and-false}
+use mathlib.Core.Path.{_≡_, _∙_, refl, sym, ap}
+use mathlib.Core.List.{List}
+use borrow.Author.Tests.{not-true, not-false, eq-eqb, ne-eqb}
+use Rattle.tlv.specs.declared.Refusal.the-variants.{NotRunning, InvalidSetting, UnknownFeature}
+use Rattle.parameters.specs.Parameters.{validLocal}
+use Rattle.parameters.specs.declared.Feature.{Feature}
+use Rattle.parameters.specs.declared.Feature.the-variants.{Groups, Flow, Applications}
+use Rattle.feature.specs.declared.Reason.{Reason}
+use Rattle.feature.specs.declared.State.{State}
+use Rattle.feature.specs.Reasons.{reasonNumber}
+use Rattle.feature.specs.declared.Setting.{Setting}
+use Rattle.feature.specs.declared.Switches.{Switches}
+use Rattle.feature.specs.State.{next, freshAt, fresh, stopped, marked, reset, settingOf, sameSetting}
+use Rattle.port.specs.declared.Control.{Control}
+use Rattle.port.specs.declared.Port.{Port}
+use Rattle.port.specs.declared.Raised.{Raised}
+use Rattle.port.specs.declared.Raised.the-variants as raised
+use Rattle.port.specs.declared.Flag.{Flag}
+use Rattle.port.specs.declared.Flag.the-variants.{Admin, Receive, Transmit, Several}
+use Rattle.port.specs.declared.Versions.{Versions}
+use Rattle.port.specs.declared.Answer.the-variants.{Done}
+use Rattle.port.specs.declared.Notices.{Notices}
+use Rattle.port.specs.declared.Event.{Event}
+use Rattle.notices.specs.declared.Kind.the-variants.{PeerGone}
+use Rattle.port.specs.Writing.{asks}
+use Rattle.port.specs.Parts.{featureOf, three, withControl, withFeatures, withFlag, flagOf, running}
+use Rattle.port.specs.PortEvents.{unsynced, sent, withSeq, freshControl, freshParts, freshPort, completed, noticed, becomes, raises, restarts, flagSet, withFeature, withSetting, settingChanged, noSetting, blankPort, started, silent, event, unchanged, refused, flagNotice, flagged, peerGone, setTo, changedFeature, changedSetting, made, created, settingsValid}
+
+-- ---- the send rule
+
+module _ (p : Port) {g w a : Bool} (eg : g ≡ unsynced (p .groups)) (ew : w ≡ unsynced (p .flow)) (ea : a ≡ unsynced (p .applications)) where
+  pub sent-synced : not (g || w || a) ≡ true → p ≡ sent p
+  unfolding sent
+  sent-synced t = simp (← eg, ← ew, ← ea, not-true (g || w || a) t)
+
+  module _ (t : not (g || w || a) ≡ false) where
+    pub sent-waits : (p .control .rcvd ≡ p .control .seq → ⊥) → p ≡ sent p
+    unfolding sent
+    sent-waits n = simp (← eg, ← ew, ← ea, not-false (g || w || a) t, ne-eqb (p .control .rcvd) (p .control .seq) n)
+
+    pub sent-next : {n : ℕ} → p .control .rcvd ≡ p .control .seq → n ≡ next (p .control .seq) → withControl p (withSeq (p .control) n) ≡ sent p
+    unfolding sent
+    sent-next e h = simp (h, ← eg, ← ew, ← ea, not-false (g || w || a) t, eq-eqb (p .control .rcvd) (p .control .seq) e)
+
+-- ---- fresh states
+
+module _ (p : Port) {g w a : State} {q : Port} where
+  pub fresh-parts : {c : Control} → g ≡ fresh (p .groups .max) (p .groups .setting) → w ≡ fresh (p .flow .max) (p .flow .setting)
+      → a ≡ fresh (p .applications .max) (p .applications .setting) → q ≡ withFeatures p (three g w a) → c ≡ freshControl (p .control .max)
+      → withControl q c ≡ freshParts p
+  fresh-parts eg ew ea eq ec = simp (eq, eg, ew, ea, ec)
+
+  pub stop-is : g ≡ stopped (p .groups) → w ≡ stopped (p .flow) → a ≡ stopped (p .applications) → q ≡ withFeatures p (three g w a)
+      → q ≡ withFeatures p (λ f. stopped (featureOf p f))
+  stop-is eg ew ea eq = eq ∙ simp (eg, ew, ea)
+
+module _ (p : Port) {q r : Port} {b : Bool} (e : b ≡ running p) (f : q ≡ freshParts p) where
+  pub fresh-running : b ≡ true → r ≡ sent q → r ≡ freshPort p
+  unfolding freshPort
+  fresh-running t h = rw (← e, t) (h ∙ ap sent f)
+
+  pub fresh-stopped : b ≡ false → r ≡ withFeatures q (λ x. stopped (featureOf q x)) → r ≡ freshPort p
+  unfolding freshPort
+  fresh-stopped t h = rw (← e, t) (h ∙ ap (λ (q : Port). withFeatures q (λ x. stopped (featureOf q x))) f)
+
+-- ---- step 5 and the send rule
+
+pub complete-is : (p q : Port) {g w a : State} {r s : Port} → g ≡ marked Groups (q .control .seq) (p .groups) (q .groups)
+    → w ≡ marked Flow (q .control .seq) (p .flow) (q .flow) → a ≡ marked Applications (q .control .seq) (p .applications) (q .applications)
+    → r ≡ withFeatures q (three g w a) → s ≡ sent r → s ≡ completed p q
+complete-is p q eg ew ea er es = es ∙ ap sent (er ∙ simp (eg, ew, ea))
+
+-- ---- notices
+
+module _ (r t : Reason) {m n : ℕ} (em : m ≡ reasonNumber r) (en : n ≡ reasonNumber t) where
+  pub becomes-same : m ≡ n → raised.Nothing ≡ becomes r t
+  unfolding becomes
+  becomes-same e = simp (← em, ← en, eq-eqb m n e)
+
+  pub becomes-new : {x : Raised} → (m ≡ n → ⊥) → x ≡ noticed t → x ≡ becomes r t
+  unfolding becomes
+  becomes-new e h = simp (h, ← em, ← en, ne-eqb m n e)
+
+pub raise-is : (x : Raised) (p q : Port) {g w a : Raised} → g ≡ becomes (p .groups .outcome .reason) (q .groups .outcome .reason)
+    → w ≡ becomes (p .flow .outcome .reason) (q .flow .outcome .reason) → a ≡ becomes (p .applications .outcome .reason) (q .applications .outcome .reason)
+    → record { port = x; groups = g; flow = w; applications = a } ≡ raises x p q
+raise-is x p q eg ew ea = simp (eg, ew, ea)
+
+-- ---- flags
+
+module _ (flag : Flag) (on : Bool) (p q : Port) {a b : Bool} (ea : a ≡ running p) (eb : b ≡ running q) where
+  pub restarts-admin : flag ≡ Admin → not (Bool·beq a b) ≡ restarts flag on p q
+  unfolding restarts
+  restarts-admin e = rw (e, ea, eb) refl
+
+  pub restarts-receive : flag ≡ Receive → not (Bool·beq a b) ≡ restarts flag on p q
+  unfolding restarts
+  restarts-receive e = rw (e, ea, eb) refl
+
+  pub restarts-transmit : flag ≡ Transmit → not (Bool·beq a b) ≡ restarts flag on p q
+  unfolding restarts
+  restarts-transmit e = rw (e, ea, eb) refl
+
+pub restarts-several : (flag : Flag) (on : Bool) (p q : Port) → flag ≡ Several → on ≡ restarts flag on p q
+unfolding restarts
+restarts-several flag on p q e = rw e refl
+
+module _ (flag : Flag) (on : Bool) (p : Port) {q : Port} {b : Bool} (eq : q ≡ withFlag p flag on) (eb : b ≡ restarts flag on p q) where
+  pub flag-restarts : {r : Port} → b ≡ true → r ≡ freshPort q → r ≡ flagSet flag on p
+  unfolding flagSet
+  flag-restarts t er = er ∙ rw (← eq, ← eb, t) refl
+
+  pub flag-stays : b ≡ false → q ≡ flagSet flag on p
+  unfolding flagSet
+  flag-stays t = rw (← eq, ← eb, t) refl
+
+-- ---- setting changes and creation
+
+module _ (f : Feature) (s : Setting) (p : Port) {x y : State} {q r : Port} {b : Bool} (ex : x ≡ featureOf p f) (eb : b ≡ running p) (eq : q ≡ withFeature p f y) where
+  pub set-running : b ≡ true → y ≡ reset f (p .control .seq) s x → r ≡ completed p q → r ≡ settingChanged f s p
+  unfolding settingChanged
+  set-running t ey er = er ∙ rw (← eb, t) (ap (completed p) (eq ∙ ap (withFeature p f) (ey ∙ ap (reset f (p .control .seq) s) ex)))
+
+  pub set-stopped : b ≡ false → y ≡ withSetting x s → r ≡ freshPort q → r ≡ settingChanged f s p
+  unfolding settingChanged
+  set-stopped t ey er = er ∙ rw (← eb, t) (ap freshPort (eq ∙ ap (withFeature p f) (ey ∙ ap (λ (z : State). withSetting z s) ex)))
+
+pub start-is : (v : Versions) (g w a : Setting) {x y z : State} {c : Control} {p : Port} → x ≡ freshAt 1 (v .groups) g → y ≡ freshAt 1 (v .flow) w
+    → z ≡ freshAt 1 (v .applications) a → c ≡ freshControl (v .control)
+    → p ≡ sent (record { admin = true; receive = true; transmit = true; several = false; control = c; groups = x; flow = y; applications = z })
+    → p ≡ started v g w a
+unfolding started
+start-is v g w a ex ey ez ec ep = ep ∙ rw (ex, ey, ez, ec) refl
+
+pub blank-is : {x : State} {c : Control} → x ≡ freshAt 1 0 noSetting → c ≡ freshControl 0
+    → record { admin = false; receive = false; transmit = false; several = false; control = c; groups = x; flow = x; applications = x } ≡ blankPort
+unfolding blankPort
+blank-is ex ec = rw (ex, ec) refl
+
+-- ---- events
+
+pub event-is : (x : Raised) (p q : Port) {b : Bool} {n : Notices} → b ≡ asks p q → n ≡ raises x p q
+    → record { answer = Done b; port = q; notices = n } ≡ event x p q
+event-is x p q eb en = rw (eb, en) refl
+
+module _ (flag : Flag) (on : Bool) (p : Port) {b : Bool} {e : Event} (eb : b ≡ flagOf p flag) where
+  pub flagged-same : Bool·beq b on ≡ true → e ≡ unchanged p → e ≡ flagged flag on p
+  unfolding flagged
+  flagged-same t er = er ∙ rw (← eb, t) refl
+
+  pub flagged-changed : {x : Raised} {q : Port} → Bool·beq b on ≡ false → x ≡ flagNotice flag on → q ≡ flagSet flag on p → e ≡ event x p q → e ≡ flagged flag on p
+  unfolding flagged
+  flagged-changed t ex eq er = er ∙ rw (ex, eq, ← eb, t) refl
+
+module _ (p : Port) {b : Bool} {e : Event} (eb : b ≡ running p) where
+  pub gone-stopped : not b ≡ true → e ≡ refused NotRunning p → e ≡ peerGone p
+  unfolding peerGone
+  gone-stopped t er = er ∙ rw (← eb, t) refl
+
+  module _ (t : not b ≡ false) {q : Port} (eq : q ≡ freshPort p) where
+    pub gone-seen : p .control .seen ≡ true → e ≡ event (raised.Notice PeerGone) p q → e ≡ peerGone p
+    unfolding peerGone
+    gone-seen s er = er ∙ rw (eq, ← eb, t, s) refl
+
+    pub gone-unseen : p .control .seen ≡ false → e ≡ event raised.Nothing p q → e ≡ peerGone p
+    unfolding peerGone
+    gone-unseen s er = er ∙ rw (eq, ← eb, t, s) refl
+
+module _ (f : Feature) (s : Setting) (p : Port) {x : State} {b : Bool} (ex : x ≡ featureOf p f) (eb : b ≡ sameSetting (x .setting) s) where
+  told : b ≡ sameSetting (featureOf p f .setting) s
+  told = eb ∙ ap (λ (x : State). sameSetting (x .setting) s) ex
+
+  pub set-same : {e : Event} → b ≡ true → e ≡ unchanged p → e ≡ setTo f s p
+  unfolding setTo
+  set-same t er = er ∙ rw (← told, t) refl
+
+  pub set-other : {e : Event} {q : Port} → b ≡ false → q ≡ settingChanged f s p → e ≡ event raised.Nothing p q → e ≡ setTo f s p
+  unfolding setTo
+  set-other t eq er = er ∙ rw (eq, ← told, t) refl
+
+module _ (f : Feature) (w : Switches) (o : List ℕ) (p : Port) {b : Bool} {e : Event} (eb : b ≡ validLocal f o) where
+  pub change-invalid : not b ≡ true → e ≡ refused InvalidSetting p → e ≡ changedFeature f w o p
+  unfolding changedFeature
+  change-invalid t er = er ∙ rw (← eb, not-true b t) refl
+
+  pub change-valid : {s : Setting} → not b ≡ false → s ≡ settingOf f w o → e ≡ setTo f s p → e ≡ changedFeature f w o p
+  unfolding changedFeature
+  change-valid t es er = er ∙ rw (es, ← eb, not-false b t) refl
+
+module _ (n : ℕ) (w : Switches) (o : List ℕ) (p : Port) {e : Event} where
+  pub change-groups : n ≡ 2 → e ≡ changedFeature Groups w o p → e ≡ changedSetting n w o p
+  unfolding changedSetting
+  change-groups t er = er ∙ rw (eq-eqb n 2 t) refl
+
+  module _ (n2 : n ≡ 2 → ⊥) where
+    pub change-flow : n ≡ 3 → e ≡ changedFeature Flow w o p → e ≡ changedSetting n w o p
+    unfolding changedSetting
+    change-flow t er = er ∙ rw (ne-eqb n 2 n2, eq-eqb n 3 t) refl
+
+    module _ (n3 : n ≡ 3 → ⊥) where
+      pub change-applications : n ≡ 4 → e ≡ changedFeature Applications w o p → e ≡ changedSetting n w o p
+      unfolding changedSetting
+      change-applications t er = er ∙ rw (ne-eqb n 2 n2, ne-eqb n 3 n3, eq-eqb n 4 t) refl
+
+      pub change-unknown : (n ≡ 4 → ⊥) → e ≡ refused UnknownFeature p → e ≡ changedSetting n w o p
+      unfolding changedSetting
+      change-unknown n4 er = er ∙ rw (ne-eqb n 2 n2, ne-eqb n 3 n3, ne-eqb n 4 n4) refl
+
+-- ---- creation
+
+pub made-is : (v : Versions) (g w a : Setting) {p : Port} {n : Notices} → p ≡ started v g w a → n ≡ silent
+    → record { answer = Done true; port = p; notices = n } ≡ made (started v g w a)
+made-is v g w a ep en = rw (ep, en) refl
+
+pub none-made : {p : Port} {e : Event} → p ≡ blankPort → e ≡ refused InvalidSetting p → e ≡ refused InvalidSetting blankPort
+none-made ep ee = ee ∙ rw ep refl
+
+module _ (v : Versions) (g w a : Switches) (gp wp ap : List ℕ) {e : Event} {b : Bool} (eb : b ≡ validLocal Groups gp) where
+  pub created-groups : not b ≡ true → e ≡ refused InvalidSetting blankPort → e ≡ created v (three g w a) (three gp wp ap)
+  unfolding created settingsValid
+  created-groups t er = er ∙ rw (← eb, not-true b t) refl
+
+  module _ (t : not b ≡ false) {c : Bool} (ec : c ≡ validLocal Flow wp) where
+    pub created-flow : not c ≡ true → e ≡ refused InvalidSetting blankPort → e ≡ created v (three g w a) (three gp wp ap)
+    unfolding created settingsValid
+    created-flow u er = er ∙ rw (← eb, not-false b t, ← ec, not-true c u) refl
+
+    module _ (u : not c ≡ false) {d : Bool} (ed : d ≡ validLocal Applications ap) where
+      pub created-applications : not d ≡ true → e ≡ refused InvalidSetting blankPort → e ≡ created v (three g w a) (three gp wp ap)
+      unfolding created settingsValid
+      created-applications x er = er ∙ rw (← eb, not-false b t, ← ec, not-false c u, ← ed, not-true d x) refl
+
+      pub created-made : {x y z : Setting} → not d ≡ false → x ≡ settingOf Groups g gp → y ≡ settingOf Flow w wp → z ≡ settingOf Applications a ap
+          → e ≡ made (started v x y z) → e ≡ created v (three g w a) (three gp wp ap)
+      unfolding created settingsValid
+      created-made k ex ey ez er = er ∙ rw (ex, ey, ez, ← eb, not-false b t, ← ec, not-false c u, ← ed, not-false d k) refl

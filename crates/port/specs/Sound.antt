@@ -1,0 +1,47 @@
+-- What every reachable port has: lengths, ranges, Oper at most Max, valid settings. (In antt an array is a list of any length and a
+-- number has no bound, so theorems over ports need it.)
+use Prim.Native.Nat.{ℕ, _<_, _≤_, _^_}
+use mathlib.Core.Path.{_≡_}
+use mathlib.Core.Bool.{Bool, true, false}
+use Rattle.parameters.specs.declared.Feature.{Feature}
+use Rattle.parameters.specs.declared.Parameters.{Parameters}
+use Rattle.parameters.specs.Parameters as parameters
+use Rattle.feature.specs.declared.Setting.{Setting}
+use Rattle.feature.specs.declared.Peer.{Peer}
+use Rattle.feature.specs.declared.State.{State}
+use Rattle.feature.specs.Outcome.{noPeer}
+use Rattle.port.specs.declared.Control.{Control}
+use Rattle.port.specs.declared.Port.{Port}
+use Rattle.port.specs.Parts.{featureOf}
+
+-- valid parameters as a state holds them: 96 places, zero past the length, application entries with OUI 00 1b 21
+pub record SoundParameters (f : Feature) (p : Parameters) : Type 0 where
+  pub whole : p ≡ parameters.stored (parameters.plain f (parameters.content p))
+  pub valid : parameters.valid f (parameters.content p) ≡ true
+
+pub record SoundSetting (f : Feature) (s : Setting) : Type 0 where
+  pub desired : SoundParameters f (s .desired)
+  pub local : parameters.localValues f (parameters.content (s .desired)) ≡ true
+
+pub record SoundPeer (f : Feature) (p : Peer) : Type 0 where
+  pub none : p .held ≡ false → p ≡ noPeer
+  pub some : p .held ≡ true → SoundParameters f (p .parameters)
+
+pub record SoundState (f : Feature) (x : State) : Type 0 where
+  pub max : x .max < 256
+  pub oper : x .outcome .oper ≤ x .max
+  pub sequence : x .sequence < 2 ^ 32
+  pub setting : SoundSetting f (x .setting)
+  pub peer : SoundPeer f (x .outcome .peer)
+  pub configuration : SoundParameters f (x .outcome .configuration)
+
+pub record SoundControl (c : Control) : Type 0 where
+  pub max : c .max < 256
+  pub oper : c .oper ≤ c .max
+  pub seq : c .seq < 2 ^ 32
+  pub ack : c .ack < 2 ^ 32
+  pub rcvd : c .rcvd < 2 ^ 32
+
+pub record SoundPort (p : Port) : Type 0 where
+  pub control : SoundControl (p .control)
+  pub features : (f : Feature) → SoundState f (featureOf p f)

@@ -1,0 +1,47 @@
+-- 01, TLV layout, Writing: "control, then the advertised features in ascending type". "The frame always carries the present settings".
+use Prim.Native.Nat.{ℕ, _+_, _/_, _%_}
+use mathlib.Core.Bool.{Bool, true, false, not}
+use mathlib.Core.List.{List, [], _∷_, _++_}
+use lib.ListN.{length, drop}
+use Rattle.octets.specs.Words.{if_then_else_, _below_}
+use Rattle.octets.specs.Octets.{octets4, same}
+use Rattle.tlv.specs.Layout.{head, fixedOctets}
+use Rattle.tlv.specs.declared.Refusal.the-variants.{NotRunning, ShortOutput}
+use Rattle.parameters.specs.declared.Feature.the-variants.{Groups, Flow, Applications}
+use Rattle.feature.specs.State.{subTlv}
+use Rattle.port.specs.declared.Control.{Control}
+use Rattle.port.specs.declared.Port.{Port}
+use Rattle.port.specs.declared.Written.{Written}
+use Rattle.port.specs.declared.Written.the-variants.{Octets, Refused}
+use Rattle.port.specs.Parts.{running}
+
+-- "Type 1, control, length 10: Oper version, Max version, SeqNo (4), AckNo (4)."
+abbrev pub controlValue : Control → List ℕ
+controlValue c = c .oper ∷ c .max ∷ (octets4 (c .seq) ++ octets4 (c .ack))
+
+unfoldable pub subTlvs : Port → List ℕ
+subTlvs p = head 1 10 ++ controlValue (p .control) ++ (subTlv Groups (p .groups) ++ (subTlv Flow (p .flow) ++ subTlv Applications (p .applications)))
+
+-- "The TLV is type 127, OUI 00 1b 21, subtype 2, then sub-TLVs"
+unfoldable pub frame : Port → List ℕ
+frame p = head 127 (4 + length (subTlvs p)) ++ fixedOctets ++ subTlvs p
+
+-- 01, Send rule: "An event asks for a send exactly if the octets to be written differ before and after it; a stopped port has none"
+unfoldable pub toWrite : Port → List ℕ
+toWrite p = if running p then frame p else []
+
+unfoldable pub asks : Port → Port → Bool
+asks before after = not (same (toWrite before) (toWrite after))
+
+-- A request to write: the answer, and the lent output afterwards. "A written frame changes only its own octets of the output."
+unfoldable pub written : Port → List ℕ → Written
+written p out =
+    if not (running p) then Refused NotRunning
+    else if length out below length (frame p) then Refused ShortOutput
+    else Octets (length (frame p))
+
+unfoldable pub output : Port → List ℕ → List ℕ
+output p out =
+    if not (running p) then out
+    else if length out below length (frame p) then out
+    else frame p ++ drop (length (frame p)) out

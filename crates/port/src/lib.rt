@@ -1,0 +1,77 @@
+// One port: a pure machine over frames, settings and flags. An event gives the answer, the next port and the notices it raises.
+use feature::State;
+use notices::Kind;
+use tlv::Refusal;
+
+pub mod events;
+pub mod handling;
+pub mod writing;
+
+// The four flags of a port.
+pub enum Flag {
+    Admin,
+    Receive,
+    Transmit,
+    Several,
+}
+
+// The control state; `rcvd` is RcvdAckNo, `seen` says that a peer was seen, `duplicate` that duplicate control is marked.
+pub struct Control {
+    pub max: u8,
+    pub oper: u8,
+    pub seq: u32,
+    pub ack: u32,
+    pub rcvd: u32,
+    pub seen: bool,
+    pub duplicate: bool,
+}
+
+pub struct Port {
+    pub admin: bool,
+    pub receive: bool,
+    pub transmit: bool,
+    pub several: bool,
+    pub control: Control,
+    pub groups: State,
+    pub flow: State,
+    pub applications: State,
+}
+
+// The highest versions, fixed at creation.
+pub struct Versions {
+    pub control: u8,
+    pub groups: u8,
+    pub flow: u8,
+    pub applications: u8,
+}
+
+// What an event gives: done, with the wish to send; or refused.
+pub enum Answer {
+    Done(bool),
+    Refused(Refusal),
+}
+
+// At most one notice of the port and one for each feature.
+pub enum Raised {
+    Nothing,
+    Notice(Kind),
+}
+
+pub struct Notices {
+    pub port: Raised,
+    pub groups: Raised,
+    pub flow: Raised,
+    pub applications: Raised,
+}
+
+pub struct Event {
+    pub answer: Answer,
+    pub port: Port,
+    pub notices: Notices,
+}
+
+// What a request to write gives: the number of octets written, or a refusal.
+pub enum Written {
+    Octets(usize),
+    Refused(Refusal),
+}
