@@ -24,6 +24,8 @@ const APPLICATIONS: u8 = 4;
 
 const CONTROL_LENGTH: usize = 10;
 
+pub mod reader;
+
 // Why a call is refused; `refusalNumber` in specs/ gives document 01's number of each.
 pub enum Refusal {
     NotRunning,
