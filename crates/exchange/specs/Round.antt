@@ -1,4 +1,4 @@
--- A round without refused calls, as one function runs it.
+-- A round as one function runs it: no call stands between its four, and an end whose write is refused gives nothing.
 use Prim.Native.Nat.{ℕ}
 use mathlib.Core.Path.{_≡_, refl, sym, ap, _∙_}
 use mathlib.Core.List.{List, []}
@@ -15,7 +15,7 @@ use Rattle.port.specs.WritingLaws.{Wrote}
 use Rattle.exchange.specs.declared.Pair.{Pair}
 use Rattle.exchange.specs.Rounds.{Ends, Round, left, right, other, lossless, quiet, maybe, writeOf, handleOf, calls, afterWrite, delivered, exec, execAll}
 
--- both write, the left end first; then both frames are delivered, the left end's first
+-- both write, the left end first; then both frames are delivered, the left end handling first
 abbrev pub plain : List ℕ → List ℕ → Round
 plain ol or =
     record { lent-l = ol; lent-r = or; writer = left; handler = left; calls-0 = []; calls-1 = []; calls-2 = []; calls-3 = []; calls-4 = [] }
