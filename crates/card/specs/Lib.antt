@@ -1,3 +1,9 @@
 pub mod Card
 pub mod CardLaws
 pub mod Sound
+pub mod Calls
+pub mod Rows
+pub mod Table
+pub mod Demand1
+pub mod Reachable
+pub mod Logged

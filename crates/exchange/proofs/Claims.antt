@@ -1,19 +1,27 @@
 -- The claims of demand 3 of a port, from what the exchange of messages shows. Assumes nothing.
 use Prim.Native.Nat.{ℕ}
+use native.Mathlib.Nat.{min-le-right}
+use native.Mathlib.Omega.{arith}
 use mathlib.Core.Path.{_≡_, refl, sym, ap, _∙_, subst}
 use mathlib.Core.Bool.{Bool, true, false}
+use mathlib.Core.List.{List, [], _∷_}
 use Rattle.octets.specs.Words.{if_then_else_}
 use Rattle.parameters.specs.declared.Feature.{Feature}
-use Rattle.feature.specs.State.{fresh}
+use Rattle.parameters.specs.Parameters.{content}
+use Rattle.feature.specs.declared.Outcome.{Outcome}
+use Rattle.feature.specs.Outcome.{lower, outcome}
+use Rattle.feature.specs.State.{flags, fresh}
 use Rattle.port.specs.declared.Port.{Port}
+use Rattle.port.specs.Parts.{featureOf}
 use Rattle.port.specs.Sound.{SoundPort}
-use Rattle.exchange.specs.Rounds.{alone, settledOutcome}
+use Rattle.exchange.specs.Rounds.{Side, sideOf, receivedAlone, ruled, alone, settledOutcome}
 use Rattle.exchange.specs.Demand3.{Agreed, Truthful}
 use Rattle.exchange.proofs.Core.{Settings, advertised, Machine, Core}
 use Rattle.exchange.proofs.View.{settings, view}
 use Rattle.exchange.proofs.Stages.{Fit, Full, After5}
 use Rattle.exchange.proofs.Losses.{Own, Honest}
 use Rattle.exchange.proofs.Idle.{Idle}
+use Rattle.exchange.proofs.Laws.{lower-of-two}
 
 pub fit : (p : Port) → SoundPort p → Fit (settings p)
 fit p h f = h .features f .setting .desired
@@ -27,13 +35,33 @@ settled-as s t p h k f false a =
     ap (λ (x : Machine). x .outcome) (k f a)
     ∙ sym (ap (λ b. if b then alone f (s .of f) (t .of f) else fresh (s .of f .max) (s .of f .setting) .outcome) a)
 
+-- a feature that both advertise runs at the lower of the two Max
+ruled-version : (f : Feature) (own peer : Side) (error : Bool) → peer .setting .advertise ≡ true → ruled f own peer error .oper ≡ lower (own .max) (peer .max)
+unfolding ruled receivedAlone
+ruled-version f own peer error b =
+    let v : List ℕ =
+    lower (own .max) (peer .max) ∷ peer .max ∷ flags (peer .setting .enable) (peer .setting .willing) error ∷ 0 ∷ content (peer .setting .desired) in
+    ap (λ b. outcome f (own .max) (own .setting) (own .max) (if b then record { count = 1; value = v } else record { count = 0; value = [] }) .oper) b
+    ∙ lower-of-two f (own .max) (own .setting) (own .max) (record { count = 1; value = v }) refl (omega arith) (min-le-right (own .max) (peer .max))
+
+settled-version : (f : Feature) (own peer : Side) → own .setting .advertise ≡ true → peer .setting .advertise ≡ true →
+    settledOutcome f own peer .oper ≡ lower (own .max) (peer .max)
+unfolding settledOutcome alone
+settled-version f own peer a b =
+    ap (λ b. (if b then alone f own peer else fresh (own .max) (own .setting) .outcome) .oper) a ∙ ruled-version f own peer _ b
+
 module _ (own peer p : Port) (q : Core) (e : view p ≡ q) where
+  abbrev p-outcome : Feature → Type 0
+  p-outcome f = featureOf p f .outcome ≡ settledOutcome f (sideOf own f) (sideOf peer f)
+
   pub agreed : (k : ℕ) (took taken : Bool) → After5 (settings own) (settings peer) q k took taken → Idle (settings own) q → Agreed own peer p
   agreed k took taken h i =
+      let o : (f : Feature) → p-outcome f = λ f. ap (λ (x : Core). x .feat f .outcome) e ∙ settled-as (settings own) (settings peer) q (h .full) i f _ refl in
       record {
         acknowledged = ap (λ (x : Core). x .rcvd) e ∙ h .done .rcvd ∙ sym (ap (λ (x : Core). x .seq) e);
         version = ap (λ (x : Core). x .oper) e ∙ h .low;
-        outcome = λ f. ap (λ (x : Core). x .feat f .outcome) e ∙ settled-as (settings own) (settings peer) q (h .full) i f _ refl;
+        versions = λ f a b. ap (λ (x : Outcome). x .oper) (o f) ∙ settled-version f (sideOf own f) (sideOf peer f) a b;
+        outcome = o;
       }
 
   pub truthful : Honest (settings peer) q → Truthful peer p

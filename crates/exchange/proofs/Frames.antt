@@ -80,11 +80,6 @@ subs-length q h =
       sub-length Applications (q .applications) (h .features Applications),
     )
 
--- "Longest frame 147 octets."
-pub frame-length : (q : Port) → SoundPort q → length (frame q) ≤ 147
-unfolding frame
-frame-length q h = omega (arith, subs-length q h)
-
 -- ---- reading it
 
 number-read : (n : ℕ) → n < 2 ^ 32 → number4 (octets4 n) 0 ≡ n

@@ -18,7 +18,7 @@ use Rattle.feature.specs.Outcome.{Received, operOf, maxOf, parametersOf, lower,
 use Rattle.feature.specs.State.{acknowledged}
 use Rattle.port.specs.Sound.{SoundParameters}
 use Rattle.exchange.specs.Rounds.{Side, ruled}
-use Rattle.exchange.proofs.Tests.{or-cases}
+use Rattle.port.proofs.Tests.{or-cases}
 use Rattle.exchange.proofs.Outcomes.{settled-oper, settled-error, alone-absent, alone-met}
 
 -- one readable sub-TLV: Oper becomes the lower of the two Max, whatever was received

@@ -1,7 +1,6 @@
 -- Demand 3, and what stands beside it. Assumes nothing.
 
 -- the exchange of messages
-pub mod Tests
 pub mod Core
 pub mod Outcomes
 pub mod Numbers
@@ -18,7 +17,6 @@ pub mod Steps
 pub mod View
 pub mod Frames
 pub mod Calls
-pub mod Soundness
 pub mod Simulation
 pub mod Started
 pub mod Claims

@@ -1,6 +1,6 @@
 -- What an end holds for a peer is the peer's own, whichever calls were made. Assumes nothing.
 use Prim.Native.Nat.{ℕ}
-use mathlib.Core.Path.{_≡_, refl}
+use mathlib.Core.Path.{_≡_, refl, _∙_}
 use mathlib.Core.Bool.{Bool, true, false, false≢true}
 use mathlib.Core.List.{List}
 use mathlib.Core.Option.{Option, none, some}
@@ -17,27 +17,28 @@ use Rattle.exchange.proofs.Outcomes.{peer-is}
 use Rattle.exchange.proofs.Pairs.{Pair, given, step, run, begin, run-keeps}
 use Rattle.exchange.proofs.Stages.{Fit}
 
--- none, or the peer's own enable, willing and parameters
+-- none, or the peer's own enable, willing and parameters, which the peer advertises
 abbrev pub Own : Side → Peer → Type 0
-Own x p = p .held ≡ true → (p .enable ≡ x .setting .enable) × (p .willing ≡ x .setting .willing) × (p .parameters ≡ x .setting .desired)
+Own x p = p .held ≡ true → (x .setting .advertise ≡ true) × (p .enable ≡ x .setting .enable) × (p .willing ≡ x .setting .willing) × (p .parameters ≡ x .setting .desired)
 
 own-none : (x : Side) → Own x noPeer
 own-none x e = absurd (false≢true e)
 
 module _ (f : Feature) (own peer : Side) (good : SoundParameters f (peer .setting .desired)) where
-  outcome-own : (adv : Bool) (old : ℕ) (o : Outcome) → Own peer (outcome f (own .max) (own .setting) old (written adv peer o) .peer)
-  outcome-own adv old o = peer-is adv f own peer old o (Own peer) good (own-none peer) (λ e. (refl, refl, refl))
+  outcome-own : (adv : Bool) → peer .setting .advertise ≡ adv → (old : ℕ) (o : Outcome) →
+      Own peer (outcome f (own .max) (own .setting) old (written adv peer o) .peer)
+  outcome-own adv a old o = peer-is adv f own peer old o (Own peer) good (own-none peer) (λ t e. (a ∙ t, refl, refl, refl))
 
   marked-own : (c : Bool) (seq : ℕ) (o : Outcome) (x : Machine) → Own peer (o .peer) → Own peer (marked c seq o x .outcome .peer)
   unfolding marked
   marked-own true seq o x h = h
   marked-own false seq o x h = h
 
-  handled-own : (a adv : Bool) (rcvd seq : ℕ) (o : Outcome) (x : Machine) → Own peer (x .outcome .peer) →
+  handled-own : (a adv : Bool) → peer .setting .advertise ≡ adv → (rcvd seq : ℕ) (o : Outcome) (x : Machine) → Own peer (x .outcome .peer) →
       Own peer (handled a f own rcvd seq (written adv peer o) x .outcome .peer)
   unfolding handled synced
-  handled-own false adv rcvd seq o x h = h
-  handled-own true adv rcvd seq o x h = marked-own _ seq _ _ (outcome-own adv (x .outcome .oper) o)
+  handled-own false adv e rcvd seq o x h = h
+  handled-own true adv e rcvd seq o x h = marked-own _ seq _ _ (outcome-own adv e (x .outcome .oper) o)
 
 fresh-own : (own peer : Side) (b : Bool) → own .setting .advertise ≡ b → Own peer (freshMachine own .outcome .peer)
 unfolding freshAt
@@ -51,7 +52,7 @@ Honest t p = (f : Feature) → Own (t .of f) (p .feat f .outcome .peer)
 gated-own : (b : Bool) (low : ℕ) (s t : Settings) (p q : Core) → Fit t → Honest t p → Honest t (gated b low s p (message t q))
 unfolding gated message
 gated-own false low s t p q good h f = h f
-gated-own true low s t p q good h f = handled-own f (s .of f) (t .of f) (good f) _ _ _ _ _ _ (h f)
+gated-own true low s t p q good h f = handled-own f (s .of f) (t .of f) (good f) _ _ refl _ _ _ _ (h f)
 
 recv-own : (s t : Settings) (p q : Core) → Fit t → Honest t p → Honest t (recv s p (message t q))
 unfolding recv

@@ -12,12 +12,12 @@ use Rattle.port.specs.declared.Written.{Written}
 use Rattle.port.specs.declared.Written.the-variants as wrote
 use Rattle.port.specs.Writing.{frame, written}
 use Rattle.port.specs.Sound.{SoundPort}
+use Rattle.port.specs.WritingLaws.{frame-longest}
 use Rattle.card.specs.declared.Card.{Card}
 use Rattle.exchange.specs.Rounds.{left, right, other, writes, handles, Ends, Round, quiet, maybe, writeOf, handleOf, calls, rounds, exec, Accepts, Proper}
 use Rattle.exchange.specs.Demand3.{Begun}
 use Rattle.exchange.proofs.Core.{Settings}
 use Rattle.exchange.proofs.View.{settings}
-use Rattle.exchange.proofs.Frames.{frame-length}
 use Rattle.exchange.proofs.Pairs.{Pair, step, begin}
 use Rattle.exchange.proofs.Simulation.{Runs, Like, follows}
 use Rattle.exchange.proofs.Started.{like-begun}
@@ -43,7 +43,7 @@ plainRound =
 
 long-enough : (p : Port) → SoundPort p → length (frame p) ≤ length lent
 unfolding lent
-long-enough p h = frame-length p h
+long-enough p h = frame-longest p h
 
 -- a write, over its two tests
 abbrev write-by : Bool → Bool → Port → Written

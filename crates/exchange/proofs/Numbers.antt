@@ -12,7 +12,7 @@ use Rattle.feature.specs.Outcome.{outcome}
 use Rattle.feature.specs.State.{next}
 use Rattle.port.specs.Handling.{Message}
 use Rattle.exchange.proofs.Core.{Settings, advertised, Machine, Core, changed, synced, marked, handled, bump, pending, sent, features, gated}
-use Rattle.exchange.proofs.Tests.{and-known, and-false-of, some-false, none-of}
+use Rattle.port.proofs.Tests.{and-known, and-false-of, some-false, none-of}
 
 -- ---- one feature, whose sub-TLV changes or not
 

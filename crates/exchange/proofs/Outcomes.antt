@@ -3,23 +3,24 @@ use Prim.Native.Nat.{ℕ, _≤_, _%_, min}
 use native.Mathlib.Nat.{min-le-left, min-le-right, le-refl}
 use native.Mathlib.Omega.{arith}
 use mathlib.Core.Path.{_≡_, refl, sym, ap, _∙_}
-use mathlib.Core.Bool.{Bool, true, false, not, _&&_, Bool·beq}
+use mathlib.Core.Bool.{Bool, true, false, not}
 use mathlib.Core.List.{_∷_}
 use lib.ListN.{length}
 use borrow.Author.Tests.{le-ltb, eq-eqb}
 use Rattle.octets.specs.Words.{if_then_else_, _below_, _atmost_, _is_}
 use Rattle.parameters.specs.declared.Feature.{Feature}
-use Rattle.parameters.specs.Parameters.{compatible, content}
+use Rattle.parameters.specs.Parameters.{content}
 use Rattle.feature.specs.declared.Setting.{Setting}
 use Rattle.feature.specs.declared.Peer.{Peer}
 use Rattle.feature.specs.declared.Outcome.{Outcome}
-use Rattle.feature.specs.declared.Reason.the-variants.{Absent, Bad, Waiting, Disabled, Agreed, NotCompatible}
-use Rattle.feature.specs.Outcome.{Received, noPeer, withoutPeer, withPeer, unwilling, settled, outcome}
+use Rattle.feature.specs.declared.Reason.the-variants.{Absent, Bad, Waiting}
+use Rattle.feature.specs.Outcome.{Received, noPeer, withoutPeer, settled, outcome}
 use Rattle.feature.specs.State.{flags}
 use Rattle.port.specs.Sound.{SoundParameters}
 use Rattle.exchange.specs.Rounds.{Side, receivedAlone, ruled}
 use Rattle.exchange.proofs.Core.{written, changed}
-use Rattle.exchange.proofs.Tests.{is-same, beq-same}
+use Rattle.port.proofs.Tests.{is-same, beq-same}
+use Rattle.port.proofs.Rules.{judged, settled-by}
 
 -- the version that the two settings lead to, if the peer advertises
 unfoldable pub version : Bool → Side → Side → ℕ
@@ -31,14 +32,7 @@ unfolding version
 version-le false own peer = le-refl _
 version-le true own peer = min-le-left _ _
 
--- ---- rules 6 to 9, over their three tests: both enabled, willing equal, compatible
-
-unfoldable pub judged : Bool → Bool → Bool → Setting → ℕ → Peer → Outcome
-judged a b c s oper p =
-    if not a then withPeer Disabled oper false false p (s .desired)
-    else if not b then withPeer Agreed oper false (not (p .error)) p (unwilling s p)
-    else if c then withPeer Agreed oper false (not (p .error)) p (s .desired)
-    else withPeer NotCompatible oper true false p (s .desired)
+-- ---- rules 6 to 9, over their three tests
 
 judged-oper : (a b c : Bool) (s : Setting) (oper : ℕ) (p : Peer) → judged a b c s oper p .oper ≡ oper
 unfolding judged
@@ -61,12 +55,6 @@ judged-peer false b c s oper p = refl
 judged-peer true false c s oper p = refl
 judged-peer true true true s oper p = refl
 judged-peer true true false s oper p = refl
-
-pub settled-by : (f : Feature) (s : Setting) (oper : ℕ) (p : Peer) →
-    settled f s oper p
-    ≡ judged (s .enable && p .enable) (Bool·beq (s .willing) (p .willing)) (compatible f (content (s .desired)) (content (p .parameters))) s oper p
-unfolding settled judged
-settled-by f s oper p = refl
 
 pub settled-oper : (f : Feature) (s : Setting) (oper : ℕ) (p : Peer) → settled f s oper p .oper ≡ oper
 settled-oper f s oper p = rw settled-by (judged-oper _ _ _ s oper p)
@@ -155,10 +143,10 @@ ranked-peer false false f own old low p P n h = n
 ranked-peer false true f own old low p P n h = rw settled-peer h
 
 pub peer-is : (adv : Bool) (f : Feature) (own peer : Side) (old : ℕ) (o : Outcome) (P : Peer → Type 0) → SoundParameters f (peer .setting .desired) →
-    P noPeer → P (heldOf peer (o .error)) → P (outcome f (own .max) (own .setting) old (written adv peer o) .peer)
+    P noPeer → (adv ≡ true → P (heldOf peer (o .error))) → P (outcome f (own .max) (own .setting) old (written adv peer o) .peer)
 unfolding outcome written
 peer-is false f own peer old o P h n k = n
-peer-is true f own peer old o P h n k = rw (outcome-by f own peer old (o .oper) (o .error) h) (ranked-peer _ _ f own old _ (heldOf peer (o .error)) P n k)
+peer-is true f own peer old o P h n k = rw (outcome-by f own peer old (o .oper) (o .error) h) (ranked-peer _ _ f own old _ (heldOf peer (o .error)) P n (k refl))
 
 -- lower of two, whatever Oper came
 pub lower-of-two : (adv : Bool) (f : Feature) (own peer : Side) (old : ℕ) (o : Outcome) → SoundParameters f (peer .setting .desired) →

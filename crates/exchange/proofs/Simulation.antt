@@ -17,7 +17,7 @@ use Rattle.exchange.specs.Rounds.{left, right, write, frame, Call, refus
 use Rattle.exchange.proofs.Core.{Settings, Core, message, recv}
 use Rattle.exchange.proofs.View.{settings, view, Kept, runs-same, view-once, kept-once}
 use Rattle.exchange.proofs.Calls.{write-leaves, refused-stays, delivered-port}
-use Rattle.exchange.proofs.Soundness.{once-kept, completed-sound}
+use Rattle.port.proofs.Soundness.{once-kept, completed-sound}
 use Rattle.exchange.proofs.Pairs.{Pair, given, step, run}
 
 -- a sound port that runs with the settings `s`, while several neighbours are not flagged

@@ -34,12 +34,15 @@ pub record Begun (c : Ends) : Type 0 where
 pub record Agreed (own peer p : Port) : Type 0 where
   pub acknowledged : p .control .rcvd ≡ p .control .seq
   pub version : p .control .oper ≡ lower (own .control .max) (peer .control .max)
+  pub versions : (f : Feature) → featureOf own f .setting .advertise ≡ true → featureOf peer f .setting .advertise ≡ true
+      → featureOf p f .outcome .oper ≡ lower (featureOf own f .max) (featureOf peer f .max)
   pub outcome : (f : Feature) → featureOf p f .outcome ≡ settledOutcome f (sideOf own f) (sideOf peer f)
 
--- Second half: what an end holds of its peer is none or exactly the peer's own
+-- Second half: what an end holds of its peer is none or exactly the peer's own, of a feature that the peer advertises
 pub record Truthful (peer p : Port) : Type 0 where
   pub own : (f : Feature) → featureOf p f .outcome .peer .held ≡ true
-      → (featureOf p f .outcome .peer .enable ≡ featureOf peer f .setting .enable)
+      → (featureOf peer f .setting .advertise ≡ true)
+      × (featureOf p f .outcome .peer .enable ≡ featureOf peer f .setting .enable)
       × (featureOf p f .outcome .peer .willing ≡ featureOf peer f .setting .willing)
       × (featureOf p f .outcome .peer .parameters ≡ featureOf peer f .setting .desired)
 

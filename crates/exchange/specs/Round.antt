@@ -7,11 +7,10 @@ use lib.ListN.{take}
 use Rattle.tlv.specs.declared.Refusal.{Refusal}
 use Rattle.port.specs.declared.Written.{Written}
 use Rattle.port.specs.declared.Written.the-variants as wrote
-use Rattle.port.specs.Writing.{written, output}
+use Rattle.port.specs.Writing.{written, output, Wrote}
 use Rattle.card.specs.declared.Card.{Card}
 use Rattle.card.specs.declared.Handled.{Handled}
 use Rattle.card.specs.Card.{handled}
-use Rattle.port.specs.WritingLaws.{Wrote}
 use Rattle.exchange.specs.declared.Pair.{Pair}
 use Rattle.exchange.specs.Rounds.{Ends, Round, left, right, other, lossless, quiet, maybe, writeOf, handleOf, calls, afterWrite, delivered, exec, execAll}
 

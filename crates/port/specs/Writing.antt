@@ -1,6 +1,7 @@
 -- 01, TLV layout, Writing: "control, then the advertised features in ascending type". "The frame always carries the present settings".
 use Prim.Native.Nat.{ℕ, _+_, _/_, _%_}
 use mathlib.Core.Bool.{Bool, true, false, not}
+use mathlib.Core.Path.{_≡_}
 use mathlib.Core.List.{List, [], _∷_, _++_}
 use lib.ListN.{length, drop}
 use Rattle.octets.specs.Words.{if_then_else_, _below_}
@@ -45,3 +46,8 @@ output p out =
     if not (running p) then out
     else if length out below length (frame p) then out
     else frame p ++ drop (length (frame p)) out
+
+-- both as one promise
+pub record Wrote (p : Port) (out : List ℕ) (r : Written) (now : List ℕ) : Type 0 where
+  pub answers : r ≡ written p out
+  pub octets : now ≡ output p out

@@ -26,7 +26,7 @@ use Rattle.port.specs.declared.Port.{Port}
 use Rattle.port.specs.declared.Written.{Written}
 use Rattle.port.specs.declared.Written.the-variants.{Octets, Refused}
 use Rattle.port.specs.Parts.{featureOf, running}
-use Rattle.port.specs.Writing.{controlValue, subTlvs, frame, toWrite, asks, written, output}
+use Rattle.port.specs.Writing.{controlValue, subTlvs, frame, toWrite, asks, written, output, Wrote}
 use Rattle.port.specs.Sound.{SoundState, SoundPort}
 
 -- ---- the parts of a frame
@@ -47,11 +47,6 @@ pub record FrameLength (p : Port) (n : ℕ) : Type 0 where
   pub is : n ≡ length (frame p)
   pub parts : n ≡ 18 + length (tlvOf p Groups) + length (tlvOf p Flow) + length (tlvOf p Applications)
   pub small : n ≤ 324
-
--- the answer to a request to write, and the output afterwards
-pub record Wrote (p : Port) (out : List ℕ) (r : Written) (now : List ℕ) : Type 0 where
-  pub answers : r ≡ written p out
-  pub octets : now ≡ output p out
 
 -- whether a feature's sub-TLVs differ, each of at most 102 octets
 pub record Differs (f : Feature) (x y : State) (r : Bool) : Type 0 where

@@ -1,14 +1,14 @@
 -- Tests as equations: of numbers, of two Booleans, of the three features. Assumes nothing.
 use Prim.Native.Nat.{ℕ}
 use mathlib.Core.Path.{_≡_, refl, sym}
-use mathlib.Core.Bool.{Bool, true, false, _&&_, _||_, Bool·beq, false≢true}
+use mathlib.Core.Bool.{Bool, true, false, not, _&&_, _||_, Bool·beq, false≢true}
 use mathlib.Core.Logic.{_⊎_, inl, inr}
 use borrow.Author.Tests.{eq-eqb}
 use Rattle.octets.specs.Words.{_is_}
 use Rattle.octets.specs.Laws.{and-left, and-right}
 use Rattle.parameters.specs.declared.Feature.{Feature}
 use Rattle.parameters.specs.declared.Feature.the-variants.{Groups, Flow, Applications}
 use Rattle.port.specs.Parts.{some, each}
 
 pub is-same : (n : ℕ) → (n is n) ≡ true
 is-same n = eq-eqb n n refl
@@ -16,6 +16,12 @@ is-same n = eq-eqb n n refl
 pub beq-same : (b : Bool) → Bool·beq b b ≡ true
 beq-same true = refl
 beq-same false = refl
+
+pub beq-not : (a b : Bool) → not (Bool·beq a b) ≡ false → a ≡ b
+beq-not true true e = refl
+beq-not true false e = e
+beq-not false true e = sym e
+beq-not false false e = refl
 
 -- ---- two Booleans
 

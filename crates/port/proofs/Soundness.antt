@@ -1,4 +1,4 @@
--- A frame that a sound port handles leaves it sound, whatever the frame holds. Assumes nothing.
+-- Handling a frame keeps a port sound, whatever the frame holds: the outcome rules, the steps, the send rule. Assumes nothing.
 use Prim.Native.Nat.{ℕ, _+_, _<_, _≤_, _^_, min}
 use native.Mathlib.Omega.{arith}
 use native.Mathlib.Nat.{min-le-left, le-refl, mod-lt}
@@ -11,11 +11,8 @@ use lib.Dec.{lit<}
 use borrow.Author.Tests.{ltb-true, ltb-false}
 use Rattle.octets.specs.Words.{if_then_else_, _below_, _is_}
 use Rattle.octets.specs.Octets.{at, number4}
-use Rattle.tlv.specs.declared.Refusal.the-variants.{NotRunning, SeveralNeighbours}
 use Rattle.tlv.specs.declared.Contents.{Contents}
-use Rattle.tlv.specs.declared.Frame.{Frame}
-use Rattle.tlv.specs.declared.Frame.the-variants.{Refused, Accepted}
-use Rattle.tlv.specs.Layout.{readFrame, valueOf}
+use Rattle.tlv.specs.Layout.{valueOf}
 use Rattle.parameters.specs.declared.Feature.{Feature}
 use Rattle.parameters.specs.declared.Feature.the-variants.{Groups, Flow, Applications}
 use Rattle.parameters.specs.declared.Parameters.{Parameters}
@@ -31,12 +28,12 @@ use Rattle.feature.specs.declared.Outcome.{Outcome}
 use Rattle.feature.specs.declared.State.{State}
 use Rattle.feature.specs.Outcome.{Received, operOf, maxOf, parametersOf, lower, heldPeer, withoutPeer, settled, outcome}
 use Rattle.feature.specs.State.{next, withOutcome, controlTwice, acknowledged, received, changed, marked}
 use Rattle.port.specs.declared.Port.{Port}
-use Rattle.port.specs.Parts.{featureOf, withControl, some, running}
-use Rattle.port.specs.PortEvents.{refused, withSeq, unsynced, sent, step5, completed}
-use Rattle.port.specs.Handling.{Message, message, twice, met, exchanged, once, steps1to4, frameEvent, accepted, given, handled}
+use Rattle.port.specs.Parts.{featureOf, withControl, some}
+use Rattle.port.specs.PortEvents.{withSeq, unsynced, sent, step5, completed}
+use Rattle.port.specs.Handling.{Message, message, twice, met, exchanged, once, steps1to4}
 use Rattle.port.specs.Sound.{SoundParameters, SoundSetting, SoundPeer, SoundState, SoundControl, SoundPort}
-use Rattle.exchange.proofs.Outcomes.{judged, settled-by}
+use Rattle.port.proofs.Rules.{judged, settled-by}
 
 -- ---- outcomes
 
@@ -73,7 +70,7 @@ module _ (f : Feature) (max : ℕ) (s : Setting) (h : SoundSetting f s) where
     judged-sound true true true = record { oper = k; peer = held-sound; configuration = h .desired }
     judged-sound true true false = record { oper = k; peer = held-sound; configuration = h .desired }
 
-    settled-sound : SoundOutcome f max (settled f s oper p)
+    pub settled-sound : SoundOutcome f max (settled f s oper p)
     settled-sound = rw settled-by (judged-sound _ _ _)
 
   -- rules 1 to 5 over their tests
@@ -101,7 +98,7 @@ module _ (f : Feature) (max : ℕ) (s : Setting) (h : SoundSetting f s) where
 
 -- ---- one feature
 
-next-small : (n : ℕ) → next n < 2 ^ 32
+pub next-small : (n : ℕ) → next n < 2 ^ 32
 next-small n = mod-lt (n + 1) (lit< tt)
 
 module _ (f : Feature) where
@@ -234,15 +231,3 @@ steps-sound o c p k h = by (1 below c .control .count)
     by false =
         let g : Octets (valueOf o (c .control)) = value-octets o (c .control .start) (c .control .length) k in
         once-kept p h (message o c) (number-small (valueOf o (c .control)) 2 g) (number-small (valueOf o (c .control)) 6 g)
-
--- every frame leaves a sound port sound
-pub handled-sound : (p : Port) (o : List ℕ) → Octets o → SoundPort p → SoundPort (handled p o .port)
-unfolding handled given accepted frameEvent
-handled-sound p o k h = by (running p) (p .several) (readFrame o)
-  where
-    by : (a b : Bool) (x : Frame) →
-        SoundPort ((if not a then refused NotRunning p else if b then refused SeveralNeighbours p else given o x p) .port)
-    by false b x = h
-    by true true x = h
-    by true false (Refused why) = h
-    by true false (Accepted c) = completed-sound p (steps1to4 o c p) (steps-sound o c p k h)
