@@ -1,9 +1,19 @@
-# make test: the gate, whose last line is that of rt ci
+# make test: the gate. make bench: speed beside the reference implementation.
 
-REFERENCE := tests/reference
+CARGO := cargo --offline --quiet
+REFERENCE := --release --manifest-path tests/reference/Cargo.toml
+COMPARE := --release --manifest-path tests/compare/Cargo.toml
 
-.PHONY: test
+.PHONY: test bench
 
+# rt ci comes last: it removes target/, and the last line is its verdict.
 test:
-	cargo test --release --offline --quiet --manifest-path $(REFERENCE)/Cargo.toml
+	$(CARGO) test $(REFERENCE)
+	rt staticlib trial
+	$(CARGO) test $(COMPARE) -- --nocapture
 	rt ci
+
+bench:
+	rt staticlib trial
+	$(CARGO) build $(REFERENCE) --bins
+	$(CARGO) run $(COMPARE) --bin bench

@@ -12,19 +12,12 @@ fn time(name: &str, mut work: impl FnMut(u32)) {
     for i in 0..times {
         work(i);
     }
-    println!(
-        "{name:32} {:7.1} ns",
-        start.elapsed().as_nanos() as f64 / f64::from(times)
-    );
+    println!("{name:32} {:7.1} ns", start.elapsed().as_nanos() as f64 / f64::from(times));
 }
 
 fn main() {
-    let setting = |parameters| Setting {
-        advertise: true,
-        enable: true,
-        willing: false,
-        parameters,
-    };
+    let setting =
+        |parameters| Setting { advertise: true, enable: true, willing: false, parameters };
     let entries: Vec<u8> = (0..16).flat_map(|i| [0x89, i, 0, 0x1b, 0x21, 8]).collect();
     for applications in [&entries[..6], &entries] {
         let settings = Settings {

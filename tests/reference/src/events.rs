@@ -87,7 +87,8 @@ pub struct Answer {
 }
 
 impl Answer {
-    fn plain(result: Result<bool, u8>) -> Self {
+    /// An answer with nothing written or taken.
+    pub fn plain(result: Result<bool, u8>) -> Self {
         Answer {
             refusal: result.err().unwrap_or(0),
             wish: result.unwrap_or(false),
@@ -119,10 +120,7 @@ impl Event {
             Event::Frame(octets) => Answer::plain(card.frame(octets)),
             Event::PeerGone => Answer::plain(card.peer_gone()),
             Event::SetFlag(flag, on) => Answer::plain(Ok(card.set_flag(*flag, *on))),
-            Event::Change {
-                feature,
-                setting: s,
-            } => Answer::plain(card.change(
+            Event::Change { feature, setting: s } => Answer::plain(card.change(
                 *feature,
                 s.advertise,
                 s.enable,
@@ -140,10 +138,7 @@ impl Event {
             }
             Event::Take => {
                 let result = card.take();
-                Answer {
-                    notice: result.unwrap_or((0, 0)),
-                    ..Answer::plain(result.map(|_| false))
-                }
+                Answer { notice: result.unwrap_or((0, 0)), ..Answer::plain(result.map(|_| false)) }
             }
         }
     }
@@ -192,11 +187,7 @@ pub mod random {
 
     fn flow(rng: &mut XorShift, local: bool) -> Vec<u8> {
         let classes = rng.below(9) as u8;
-        let mut mask = if rng.percent(60) {
-            rng.pick(&[0, 0x08, 0x10, 0x18])
-        } else {
-            rng.octet()
-        };
+        let mut mask = if rng.percent(60) { rng.pick(&[0, 0x08, 0x10, 0x18]) } else { rng.octet() };
         while local && mask.count_ones() > u32::from(classes) {
             mask &= mask - 1;
         }
@@ -221,11 +212,7 @@ pub mod random {
             if octets.chunks(6).any(named) {
                 continue;
             }
-            let map = if rng.percent(70) {
-                rng.pick(&[0x08, 0x10])
-            } else {
-                rng.octet()
-            };
+            let map = if rng.percent(70) { rng.pick(&[0x08, 0x10]) } else { rng.octet() };
             if rng.percent(85) {
                 octets.extend([high, low, selector, OUI[1], OUI[2], map]);
             } else {
@@ -267,11 +254,7 @@ pub mod random {
                     // 99 or 101.
                     let up = rng.flip();
                     let place = (4..12).find(|&i| octets[i] > 0).unwrap_or(4);
-                    octets[place] = if up {
-                        octets[place] + 1
-                    } else {
-                        octets[place] - 1
-                    };
+                    octets[place] = if up { octets[place] + 1 } else { octets[place] - 1 };
                 }
                 // 356, which is 100 modulo 256.
                 4 => octets[4..12].copy_from_slice(&[255, 101, 0, 0, 0, 0, 0, 0]),
@@ -390,11 +373,7 @@ pub mod random {
     pub fn settings_near(rng: &mut XorShift, like: &OwnedSettings) -> OwnedSettings {
         let mut feature = PRIORITY_GROUPS;
         OwnedSettings {
-            control_max: if rng.percent(60) {
-                like.control_max
-            } else {
-                version(rng)
-            },
+            control_max: if rng.percent(60) { like.control_max } else { version(rng) },
             feature: like.feature.clone().map(|(max, theirs)| {
                 let parameters = near(rng, feature, &theirs.parameters, true);
                 feature += 1;
@@ -456,6 +435,11 @@ impl Generator {
         self.card.as_ref()
     }
 
+    /// For the wrap of numbers only: the same card, to be changed.
+    pub fn card_mut(&mut self) -> Option<&mut Card> {
+        self.card.as_mut()
+    }
+
     /// The next event and the reference's answer to it.
     pub fn step(&mut self) -> (Event, Answer) {
         let event = match self.card.take() {
@@ -501,10 +485,7 @@ impl Generator {
                 (Flag::Receive, flags.receive),
                 (Flag::Transmit, flags.transmit),
             ];
-            let flag = off
-                .into_iter()
-                .find(|(_, on)| !on)
-                .map_or(Flag::Enabled, |(f, _)| f);
+            let flag = off.into_iter().find(|(_, on)| !on).map_or(Flag::Enabled, |(f, _)| f);
             return Event::SetFlag(flag, true);
         }
         if flags.several_neighbours && rng.percent(20) {
@@ -528,11 +509,8 @@ impl Generator {
 
     fn change(&mut self, card: &Card) -> Event {
         let rng = &mut self.rng;
-        let number = if rng.percent(5) {
-            rng.pick(&[0, 1, 5, 6, 127, 255])
-        } else {
-            2 + rng.below(3) as u8
-        };
+        let number =
+            if rng.percent(5) { rng.pick(&[0, 1, 5, 6, 127, 255]) } else { 2 + rng.below(3) as u8 };
         let like = if (2..=4).contains(&number) { number } else { 2 };
         let now = card.feature(like);
         let mut setting = OwnedSetting {
@@ -571,10 +549,7 @@ impl Generator {
                 setting.parameters[3] = rng.octet();
             }
         }
-        Event::Change {
-            feature: number,
-            setting,
-        }
+        Event::Change { feature: number, setting }
     }
 
     fn frame(&mut self, card: &Card) -> Vec<u8> {
@@ -615,13 +590,8 @@ impl Generator {
                 let feature = 2 + rng.below(3) as u8;
                 let like = card.feature(feature).parameters;
                 let parameters = random::near(rng, feature, &like, true);
-                let _ = peer.change(
-                    feature,
-                    rng.percent(90),
-                    rng.percent(85),
-                    rng.flip(),
-                    &parameters,
-                );
+                let _ =
+                    peer.change(feature, rng.percent(90), rng.percent(85), rng.flip(), &parameters);
             }
             _ => {}
         }
@@ -642,11 +612,7 @@ impl Generator {
     /// Mostly what the version rules ask for, given our highest version.
     fn versions(&mut self, max: u8) -> (u8, u8) {
         let rng = &mut self.rng;
-        let theirs = if rng.percent(70) {
-            max
-        } else {
-            rng.pick(&[0, 1, 2, 3, 255])
-        };
+        let theirs = if rng.percent(70) { max } else { rng.pick(&[0, 1, 2, 3, 255]) };
         let right = max.min(theirs);
         let oper = match rng.below(100) {
             0..=89 => right,
@@ -679,11 +645,7 @@ impl Generator {
         body.extend(seqno.to_be_bytes());
         body.extend(ackno.to_be_bytes());
         if rng.percent(3) {
-            let length = if rng.flip() {
-                rng.pick(&[9, 11])
-            } else {
-                rng.below(30)
-            };
+            let length = if rng.flip() { rng.pick(&[9, 11]) } else { rng.below(30) };
             body.resize(length as usize, 0);
         }
         body
@@ -706,11 +668,7 @@ impl Generator {
         if rng.flip() {
             flags |= WILLING;
         }
-        let sub_type = if rng.percent(4) {
-            1 + rng.below(255) as u8
-        } else {
-            0
-        };
+        let sub_type = if rng.percent(4) { 1 + rng.below(255) as u8 } else { 0 };
         let parameters = match rng.below(100) {
             0..=49 => random::near(rng, number, &ours.parameters, false),
             50..=79 => random::valid(rng, number, false),
@@ -753,11 +711,8 @@ impl Generator {
         }
         let rng = &mut self.rng;
         while rng.percent(15) {
-            let kind = if rng.flip() {
-                rng.pick(&[0, 5, 6, 127])
-            } else {
-                5 + rng.below(123) as u8
-            };
+            let kind =
+                if rng.flip() { rng.pick(&[0, 5, 6, 127]) } else { 5 + rng.below(123) as u8 };
             let length = rng.below(40) as usize;
             list.push((kind, rng.octets(length)));
         }
@@ -775,11 +730,7 @@ impl Generator {
 
     /// A good frame with one thing broken.
     fn damaged(&mut self, card: &Card) -> Vec<u8> {
-        let mut frame = if self.rng.flip() {
-            self.peers_frame(card)
-        } else {
-            self.crafted(card)
-        };
+        let mut frame = if self.rng.flip() { self.peers_frame(card) } else { self.crafted(card) };
         if frame.len() < 6 {
             return frame;
         }

@@ -160,12 +160,7 @@ pub fn read(octets: &[u8]) -> Result<Frame<'_>, u8> {
             Controls::One(control)
         }
     };
-    Ok(Frame {
-        controls,
-        groups,
-        flow,
-        applications,
-    })
+    Ok(Frame { controls, groups, flow, applications })
 }
 
 /// A feature's whole parameters, as read from the octets behind the first four
@@ -207,11 +202,7 @@ impl Parameters for Groups {
         let classes = octets[12];
         let sum: u32 = percentage.iter().map(|&p| u32::from(p)).sum();
         let good = group.iter().all(|&g| g <= 7 || g == 15) && sum == 100 && classes <= 8;
-        good.then_some(Groups {
-            group,
-            percentage,
-            classes,
-        })
+        good.then_some(Groups { group, percentage, classes })
     }
 
     fn local(&self) -> bool {
@@ -332,10 +323,7 @@ impl Parameters for Applications {
             entry[count] = next;
             count += 1;
         }
-        Some(Applications {
-            entry,
-            count: count as u8,
-        })
+        Some(Applications { entry, count: count as u8 })
     }
 
     fn local(&self) -> bool {

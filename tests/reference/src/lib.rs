@@ -1,7 +1,8 @@
 //! A reference engine for one DCBX 1.01 port, written from document 01 alone.
 //!
 //! The modules follow the sections of that document. The engine works in place
-//! and allocates nothing; only `dump`, `View` and the event generator do.
+//! and allocates nothing; only `dump`, `View`, the event generator and the text
+//! forms of the programs do.
 
 pub mod dump;
 pub mod events;
@@ -13,6 +14,7 @@ pub mod refusal;
 pub mod rng;
 pub mod rounds;
 pub mod settings;
+pub mod text;
 
 pub use dump::{PeerView, View};
 pub use layout::{Applications, Entry, FlowControl, Groups, Parameters};

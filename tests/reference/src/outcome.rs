@@ -192,11 +192,7 @@ impl<P: Parameters> Feature<P> {
         (self.reason, self.error, self.mode, self.opercfg) = if !own.enable || !peer.enable {
             (Reason::Disabled, false, false, own.parameters)
         } else if own.willing != peer.willing {
-            let unwilling = if own.willing {
-                peer.parameters
-            } else {
-                own.parameters
-            };
+            let unwilling = if own.willing { peer.parameters } else { own.parameters };
             (Reason::Agreed, false, agreed, unwilling)
         } else if own.parameters.compatible(&peer.parameters) {
             (Reason::Agreed, false, agreed, own.parameters)

@@ -39,12 +39,8 @@ pub enum Flag {
 }
 
 impl Flag {
-    pub const ALL: [Flag; 4] = [
-        Flag::Enabled,
-        Flag::Receive,
-        Flag::Transmit,
-        Flag::SeveralNeighbours,
-    ];
+    pub const ALL: [Flag; 4] =
+        [Flag::Enabled, Flag::Receive, Flag::Transmit, Flag::SeveralNeighbours];
 }
 
 /// The engine of one port.
@@ -165,12 +161,7 @@ impl Card {
         willing: bool,
         parameters: &[u8],
     ) -> Result<bool, u8> {
-        let setting = Setting {
-            advertise,
-            enable,
-            willing,
-            parameters,
-        };
+        let setting = Setting { advertise, enable, willing, parameters };
         let running = self.running();
         let reasons = self.reasons();
         let seqno = self.control.seqno;
@@ -258,11 +249,8 @@ impl Card {
         self.control.seqno = seqno;
         self.control.ackno = ackno;
         self.control.rcvdackno = rcvdackno;
-        [
-            self.groups.featureseqno,
-            self.flow.featureseqno,
-            self.applications.featureseqno,
-        ] = featureseqno;
+        [self.groups.featureseqno, self.flow.featureseqno, self.applications.featureseqno] =
+            featureseqno;
     }
 
     /// For tests of the wrap only: sets the dropped count.
@@ -322,8 +310,7 @@ impl Card {
         control.rcvdackno = received.ackno;
         self.groups.acknowledge(control.rcvdackno, control.seqno);
         self.flow.acknowledge(control.rcvdackno, control.seqno);
-        self.applications
-            .acknowledge(control.rcvdackno, control.seqno);
+        self.applications.acknowledge(control.rcvdackno, control.seqno);
         control.ackno = received.seqno;
         self.groups.receive(frame.groups);
         self.flow.receive(frame.flow);
@@ -358,11 +345,7 @@ impl Card {
 
     #[inline]
     fn reasons(&self) -> [Reason; 3] {
-        [
-            self.groups.reason,
-            self.flow.reason,
-            self.applications.reason,
-        ]
+        [self.groups.reason, self.flow.reason, self.applications.reason]
     }
 
     #[inline]
@@ -371,11 +354,7 @@ impl Card {
             oper: self.control.oper,
             seqno: self.control.seqno,
             ackno: self.control.ackno,
-            shown: [
-                self.groups.shown(),
-                self.flow.shown(),
-                self.applications.shown(),
-            ],
+            shown: [self.groups.shown(), self.flow.shown(), self.applications.shown()],
         }
     }
 

@@ -6,9 +6,7 @@ pub struct XorShift(u64);
 impl XorShift {
     pub fn new(seed: u64) -> Self {
         // Spread small seeds; a zero state would stay zero.
-        let spread = seed
-            .wrapping_add(0x9e37_79b9_7f4a_7c15)
-            .wrapping_mul(0xbf58_476d_1ce4_e5b9);
+        let spread = seed.wrapping_add(0x9e37_79b9_7f4a_7c15).wrapping_mul(0xbf58_476d_1ce4_e5b9);
         XorShift(if spread == 0 { 1 } else { spread })
     }
 

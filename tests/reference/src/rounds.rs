@@ -25,11 +25,7 @@ pub struct Round {
 impl Round {
     /// A round without losses.
     pub fn whole(first: usize) -> Self {
-        Round {
-            first,
-            writes: [true; 2],
-            delivered: [true; 2],
-        }
+        Round { first, writes: [true; 2], delivered: [true; 2] }
     }
 }
 
@@ -52,9 +48,7 @@ impl Ends {
         for i in 0..2 {
             noise(&mut self.end);
             if round.writes[i] {
-                length[i] = self.end[i]
-                    .write(&mut octets[i])
-                    .expect("an accepted write");
+                length[i] = self.end[i].write(&mut octets[i]).expect("an accepted write");
             }
         }
         for to in [round.first, 1 - round.first] {

@@ -9,16 +9,10 @@ fn equal_settings_change_nothing() {
     for mut card in [w2_card(), settled_card()] {
         let before = card.dump();
         for number in 2..=4 {
-            assert_eq!(
-                card.change(number, true, true, false, w2_parameters(number)),
-                Ok(false)
-            );
+            assert_eq!(card.change(number, true, true, false, w2_parameters(number)), Ok(false));
         }
         // The OUI is no part of a setting.
-        assert_eq!(
-            card.change(4, true, true, false, &hex("89 06 fc 00 00 08")),
-            Ok(false)
-        );
+        assert_eq!(card.change(4, true, true, false, &hex("89 06 fc 00 00 08")), Ok(false));
         assert_eq!(card.dump(), before);
     }
 }
@@ -43,44 +37,26 @@ fn a_held_peer_is_judged_again() {
         // Not compatible any more.
         let mut card = settled_card();
         let peer = card.feature(number).peer;
-        assert_eq!(
-            card.change(number, true, true, false, &other_parameters(number)),
-            Ok(true)
-        );
+        assert_eq!(card.change(number, true, true, false, &other_parameters(number)), Ok(true));
         let view = card.feature(number);
-        assert_eq!(
-            (view.reason, view.error, view.mode),
-            (Reason::NotCompatible, true, false)
-        );
+        assert_eq!((view.reason, view.error, view.mode), (Reason::NotCompatible, true, false));
         assert_eq!((view.featureseqno, view.syncd), (2, false));
         assert_eq!(view.opercfg, other_parameters(number));
         assert_eq!(view.peer, peer);
         assert_eq!(numbers(&card), (2, 1, 1));
         assert_eq!(notices(&mut card), [(10, number)]);
         // Willing now: the peer's configuration.
-        assert_eq!(
-            card.change(number, true, true, true, &other_parameters(number)),
-            Ok(true)
-        );
+        assert_eq!(card.change(number, true, true, true, &other_parameters(number)), Ok(true));
         let view = card.feature(number);
-        assert_eq!(
-            (view.reason, view.error, view.mode),
-            (Reason::Agreed, false, true)
-        );
+        assert_eq!((view.reason, view.error, view.mode), (Reason::Agreed, false, true));
         assert_eq!(view.opercfg, w2_parameters(number));
         // 2 is not acknowledged yet: the change waits for 3.
         assert_eq!((view.featureseqno, view.syncd), (3, false));
         assert_eq!(numbers(&card), (2, 1, 1));
         // Disabled.
-        assert_eq!(
-            card.change(number, true, false, true, &other_parameters(number)),
-            Ok(true)
-        );
+        assert_eq!(card.change(number, true, false, true, &other_parameters(number)), Ok(true));
         let view = card.feature(number);
-        assert_eq!(
-            (view.reason, view.error, view.mode),
-            (Reason::Disabled, false, false)
-        );
+        assert_eq!((view.reason, view.error, view.mode), (Reason::Disabled, false, false));
         assert_eq!(view.opercfg, other_parameters(number));
         assert_eq!(notices(&mut card), []);
         // The other features stay.
@@ -122,10 +98,7 @@ fn without_a_peer_only_the_configuration_follows() {
         assert_eq!(after.opercfg, [0x10, 1]);
         assert!(!after.syncd);
         assert_eq!(after.featureseqno, seqno + 1);
-        assert_eq!(
-            numbers(&card).0,
-            if seqno == rcvdackno { seqno + 1 } else { seqno }
-        );
+        assert_eq!(numbers(&card).0, if seqno == rcvdackno { seqno + 1 } else { seqno });
         assert_eq!(card.log().held(), held);
     }
 }
@@ -139,10 +112,7 @@ fn not_advertised_stays_so() {
     assert_eq!(card.change(3, false, false, true, &[0x10, 1]), Ok(false));
     let after = card.feature(3);
     assert_eq!((after.mode, &after.opercfg[..]), (false, &[0x10, 1][..]));
-    assert_eq!(
-        (after.featureseqno, after.syncd),
-        (before.featureseqno, before.syncd)
-    );
+    assert_eq!((after.featureseqno, after.syncd), (before.featureseqno, before.syncd));
     assert_eq!(after.reason, Reason::NotAdvertised);
     assert_eq!(*card.control(), control);
     assert_eq!(card.change(3, false, true, true, &[0x10, 1]), Ok(false));
@@ -154,15 +124,9 @@ fn withdrawn_and_advertised_again() {
     for number in 2..=4 {
         let parameters = w2_parameters(number);
         let mut card = settled_card();
-        assert_eq!(
-            card.change(number, false, true, false, parameters),
-            Ok(true)
-        );
+        assert_eq!(card.change(number, false, true, false, parameters), Ok(true));
         let view = card.feature(number);
-        assert_eq!(
-            (view.reason, view.mode, view.error),
-            (Reason::NotAdvertised, true, false)
-        );
+        assert_eq!((view.reason, view.mode, view.error), (Reason::NotAdvertised, true, false));
         assert_eq!((view.featureseqno, view.syncd), (2, true));
         assert!(view.peer.is_none());
         // SeqNo stays, but the frame is shorter.
@@ -171,17 +135,11 @@ fn withdrawn_and_advertised_again() {
         // Advertised again: SeqNo 1 is acknowledged, so 2 goes out.
         assert_eq!(card.change(number, true, true, false, parameters), Ok(true));
         let view = card.feature(number);
-        assert_eq!(
-            (view.reason, view.mode, view.error),
-            (Reason::NoPeerYet, false, false)
-        );
+        assert_eq!((view.reason, view.mode, view.error), (Reason::NoPeerYet, false, false));
         assert_eq!((view.featureseqno, view.syncd), (2, false));
         assert_eq!(numbers(&card), (2, 1, 1));
         // Once more while 2 is not acknowledged: 3 waits.
-        assert_eq!(
-            card.change(number, false, true, false, parameters),
-            Ok(true)
-        );
+        assert_eq!(card.change(number, false, true, false, parameters), Ok(true));
         assert_eq!(card.feature(number).featureseqno, 3);
         assert_eq!(card.change(number, true, true, false, parameters), Ok(true));
         assert_eq!(card.feature(number).featureseqno, 3);

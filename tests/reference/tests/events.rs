@@ -9,10 +9,7 @@ use reference::{Card, Reason};
 use std::collections::BTreeMap;
 
 fn held(card: &Card) -> Vec<(u8, u8)> {
-    card.log()
-        .notices()
-        .map(|n| (n.number, n.feature))
-        .collect()
+    card.log().notices().map(|n| (n.number, n.feature)).collect()
 }
 
 /// The notices due by the flags, marks and reasons before and after.
@@ -64,11 +61,7 @@ fn happened(event: &Event, before: &Card, after: &Card, mut count: impl FnMut(&'
             });
             if is.advertise && before.running() && was != is {
                 let now = before.control().seqno != after.control().seqno;
-                count(if now {
-                    "change: SeqNo at once"
-                } else {
-                    "change: SeqNo waits"
-                });
+                count(if now { "change: SeqNo at once" } else { "change: SeqNo waits" });
             }
         }
         Event::Frame(octets) => {
@@ -127,10 +120,7 @@ fn lawful(card: &Card) {
             Reason::ControlTwice | Reason::Duplicate | Reason::Bad | Reason::NotCompatible
         );
         assert_eq!(f.error, error);
-        let held = matches!(
-            f.reason,
-            Reason::Disabled | Reason::Agreed | Reason::NotCompatible
-        );
+        let held = matches!(f.reason, Reason::Disabled | Reason::Agreed | Reason::NotCompatible);
         assert_eq!(f.peer.is_some(), held);
         match f.reason {
             Reason::NotAdvertised => assert_eq!(f.mode, card.running() && f.enable),
@@ -138,11 +128,7 @@ fn lawful(card: &Card) {
             _ => assert!(!f.mode),
         }
         let theirs = f.reason == Reason::Agreed && f.willing && !f.peer.as_ref().unwrap().willing;
-        let config = if theirs {
-            &f.peer.as_ref().unwrap().parameters
-        } else {
-            &f.parameters
-        };
+        let config = if theirs { &f.peer.as_ref().unwrap().parameters } else { &f.parameters };
         assert_eq!(f.opercfg, *config);
         assert!(f.oper <= f.max);
         if !f.advertise {
@@ -151,10 +137,7 @@ fn lawful(card: &Card) {
     }
     assert!(control.oper <= control.max);
     if card.running() {
-        assert!(
-            !(pending && control.rcvdackno == control.seqno),
-            "the send rule was due"
-        );
+        assert!(!(pending && control.rcvdackno == control.seqno), "the send rule was due");
     } else {
         // The fresh state, stopped.
         assert_eq!(numbers(card), (0, 0, 0));
@@ -162,11 +145,7 @@ fn lawful(card: &Card) {
         for number in 2..=4 {
             let f = card.feature(number);
             assert_eq!((f.featureseqno, f.oper, f.syncd), (1, f.max, !f.advertise));
-            let reason = if f.advertise {
-                Reason::NoPeerYet
-            } else {
-                Reason::NotAdvertised
-            };
+            let reason = if f.advertise { Reason::NoPeerYet } else { Reason::NotAdvertised };
             assert_eq!(f.reason, reason);
         }
     }
@@ -243,11 +222,7 @@ fn all_occur_and_all_is_kept() {
             _ => {}
         }
         // The wish, by the octets themselves.
-        assert_eq!(
-            answer.wish,
-            written(&before) != written(after),
-            "event {i} {event:?}"
-        );
+        assert_eq!(answer.wish, written(&before) != written(after), "event {i} {event:?}");
         // The log, by its definition.
         let new = due(&event, &before, after);
         let mut all = held(&before);
@@ -256,8 +231,7 @@ fn all_occur_and_all_is_kept() {
         assert_eq!(all[over..], held(after), "event {i} {event:?}");
         assert_eq!(after.log().dropped(), before.log().dropped() + over as u32);
         dropped += over as u32;
-        new.iter()
-            .for_each(|&(number, _)| noticed[usize::from(number)] += 1);
+        new.iter().for_each(|&(number, _)| noticed[usize::from(number)] += 1);
         for (feature, became) in became.iter_mut().enumerate() {
             let (was, is) = (reasons(&before)[feature], reasons(after)[feature]);
             if was != is {
@@ -273,9 +247,7 @@ fn all_occur_and_all_is_kept() {
             }
         }
         if answer.refusal == 0 {
-            happened(&event, &before, after, |what| {
-                *rare.entry(what).or_default() += 1
-            });
+            happened(&event, &before, after, |what| *rare.entry(what).or_default() += 1);
         }
     }
     println!("{events} events: {kinds:?}");
@@ -314,9 +286,6 @@ fn the_seed_alone_decides() {
     for event in &first {
         let answer = event.apply(&mut card);
         assert_eq!(generator.step(), (event.clone(), answer));
-        assert_eq!(
-            generator.card().map(Card::dump),
-            card.as_ref().map(Card::dump)
-        );
+        assert_eq!(generator.card().map(Card::dump), card.as_ref().map(Card::dump));
     }
 }

@@ -134,11 +134,8 @@ fn every_reason_after_every_other() {
                 }
                 _ => None,
             };
-            let expected: Vec<_> = number
-                .map(|n| [(n, 2), (n, 3), (n, 4)])
-                .into_iter()
-                .flatten()
-                .collect();
+            let expected: Vec<_> =
+                number.map(|n| [(n, 2), (n, 3), (n, 4)]).into_iter().flatten().collect();
             assert_eq!(came, expected);
         }
     }

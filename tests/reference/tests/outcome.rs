@@ -32,15 +32,8 @@ fn good(number: u8) -> (u8, Vec<u8>) {
 /// A card whose feature already holds a peer, with Oper 1.
 fn holding(number: u8) -> Card {
     let mut card = card(&local(number, true, false));
-    let view = give(
-        &mut card,
-        number,
-        &[feature(number, 1, 1, 0x80, w2_parameters(number))],
-    );
-    assert_eq!(
-        (view.reason, view.oper, view.mode),
-        (Reason::Agreed, 1, true)
-    );
+    let view = give(&mut card, number, &[feature(number, 1, 1, 0x80, w2_parameters(number))]);
+    assert_eq!((view.reason, view.oper, view.mode), (Reason::Agreed, 1, true));
     card
 }
 
@@ -61,25 +54,13 @@ fn rule_1_absent() {
         // Another SubType is another feature.
         let mut other = good(number);
         other.1[3] = 1;
-        no_peer(
-            &give(&mut holding(number), number, &[other.clone()]),
-            Reason::Absent,
-            false,
-        );
+        no_peer(&give(&mut holding(number), number, &[other.clone()]), Reason::Absent, false);
         // Beside the right one it does not count.
-        let view = give(
-            &mut holding(number),
-            number,
-            &[other.clone(), good(number), other],
-        );
+        let view = give(&mut holding(number), number, &[other.clone(), good(number), other]);
         assert_eq!(view.reason, Reason::Agreed);
         // Nor is its length or version looked at.
         let odd = (number, vec![9, 3, 0xff, 0x80]);
-        no_peer(
-            &give(&mut holding(number), number, &[odd]),
-            Reason::Absent,
-            false,
-        );
+        no_peer(&give(&mut holding(number), number, &[odd]), Reason::Absent, false);
     }
 }
 
@@ -181,11 +162,7 @@ fn what_may_be_received_though_not_set() {
     for (number, parameters, held) in [
         (3, vec![0xff, 0], vec![0xff, 0]),
         (4, hex("89 06 02 1b 21 08"), hex("89 06 02 1b 21 08")),
-        (
-            4,
-            hex("89 06 fb 00 00 08 89 06 fc 01 02 08"),
-            hex("89 06 03 1b 21 08 89 06 00 1b 21 08"),
-        ),
+        (4, hex("89 06 fb 00 00 08 89 06 fc 01 02 08"), hex("89 06 03 1b 21 08 89 06 00 1b 21 08")),
         (
             2,
             hex("ff 77 00 0f 64 00 00 00 00 00 00 00 00"),
@@ -193,11 +170,7 @@ fn what_may_be_received_though_not_set() {
         ),
     ] {
         let mut card = card(&local(number, true, true));
-        let view = give(
-            &mut card,
-            number,
-            &[feature(number, 2, 2, 0x80, &parameters)],
-        );
+        let view = give(&mut card, number, &[feature(number, 2, 2, 0x80, &parameters)]);
         assert_eq!(view.reason, Reason::Agreed);
         assert_eq!(view.opercfg, held);
         assert_eq!(view.peer.unwrap().parameters, held);
@@ -246,11 +219,7 @@ fn rules_6_to_9() {
                     assert_eq!((view.reason, view.error, view.mode), expected);
                     assert_eq!(
                         view.opercfg,
-                        if own_cfg {
-                            w2_parameters(number)
-                        } else {
-                            &parameters[..]
-                        }
+                        if own_cfg { w2_parameters(number) } else { &parameters[..] }
                     );
                 }
             }
@@ -266,18 +235,8 @@ fn compatible() {
         (2, GROUPS.to_vec(), [&GROUPS[..12], &[8]].concat(), true),
         (3, FLOW.to_vec(), vec![0x08, 1], true),
         (3, FLOW.to_vec(), vec![0x09, 8], false),
-        (
-            2,
-            GROUPS.to_vec(),
-            hex("00 01 00 00 31 33 00 00 00 00 00 00 02"),
-            false,
-        ),
-        (
-            2,
-            GROUPS.to_vec(),
-            hex("00 01 00 01 32 32 00 00 00 00 00 00 02"),
-            false,
-        ),
+        (2, GROUPS.to_vec(), hex("00 01 00 00 31 33 00 00 00 00 00 00 02"), false),
+        (2, GROUPS.to_vec(), hex("00 01 00 01 32 32 00 00 00 00 00 00 02"), false),
         // Nothing named by both.
         (4, APPLICATIONS.to_vec(), vec![], true),
         (4, vec![], APPLICATIONS.to_vec(), true),
@@ -303,11 +262,7 @@ fn compatible() {
         settings.feature[usize::from(number) - 2].1.parameters = own.clone();
         let mut card = card(&settings);
         let view = give(&mut card, number, &[feature(number, 2, 2, 0x80, &theirs)]);
-        assert_eq!(
-            view.reason == Reason::Agreed,
-            compatible,
-            "{own:02x?} {theirs:02x?}"
-        );
+        assert_eq!(view.reason == Reason::Agreed, compatible, "{own:02x?} {theirs:02x?}");
         assert_eq!(view.reason == Reason::NotCompatible, !compatible);
         assert_eq!(view.opercfg, own);
     }

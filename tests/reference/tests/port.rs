@@ -14,10 +14,7 @@ fn fresh(view: &View, running: bool) {
     if view.advertise {
         assert_eq!((view.reason, view.mode), (Reason::NoPeerYet, false));
     } else {
-        assert_eq!(
-            (view.reason, view.mode),
-            (Reason::NotAdvertised, running && view.enable)
-        );
+        assert_eq!((view.reason, view.mode), (Reason::NotAdvertised, running && view.enable));
     }
 }
 

@@ -68,11 +68,7 @@ fn started(rng: &mut XorShift, settings: &OwnedSettings) -> Card {
 
 fn pair(rng: &mut XorShift) -> Ends {
     let a = random::settings(rng);
-    let b = if rng.percent(85) {
-        random::settings_near(rng, &a)
-    } else {
-        random::settings(rng)
-    };
+    let b = if rng.percent(85) { random::settings_near(rng, &a) } else { random::settings(rng) };
     let (a, b) = if rng.flip() { (a, b) } else { (b, a) };
     Ends::new(started(rng, &a), started(rng, &b))
 }
@@ -103,19 +99,14 @@ fn five_rounds_settle() {
         assert!(ends.settled(), "pair {i}: {ends:?}");
         settled_after[first.unwrap()] += 1;
         for end in &ends.end {
-            reasons(end)
-                .iter()
-                .for_each(|&reason| seen[reason as usize] += 1);
+            reasons(end).iter().for_each(|&reason| seen[reason as usize] += 1);
         }
         // What settled stays.
         let before = dumps(&ends);
         ends.round();
         assert_eq!(before, dumps(&ends), "pair {i}");
     }
-    println!(
-        "{pairs} pairs; settled after 1 to 5 rounds: {:?}",
-        &settled_after[1..]
-    );
+    println!("{pairs} pairs; settled after 1 to 5 rounds: {:?}", &settled_after[1..]);
     for reason in Reason::ALL {
         println!("{:8} {reason:?}", seen[reason as usize]);
     }
@@ -149,11 +140,7 @@ fn losses_leave_the_peers_own() {
             };
             ends.round_with(round, |card| refused(&mut rng, card));
             assert!(ends.held_is_own(), "pair {i}: {ends:?}");
-            held += ends
-                .end
-                .iter()
-                .map(|end| u32::from(end.flow().peer.is_some()))
-                .sum::<u32>();
+            held += ends.end.iter().map(|end| u32::from(end.flow().peer.is_some())).sum::<u32>();
         }
         // After the losses, rounds without any settle too.
         for _ in 0..5 {
@@ -178,11 +165,7 @@ fn kinds() -> Vec<Kind> {
     for advertise in [(true, true), (true, false), (false, true), (false, false)] {
         for max in [(0, 0), (0, 1), (1, 0)] {
             for clash in [false, true] {
-                kinds.push(Kind {
-                    advertise,
-                    max,
-                    clash,
-                });
+                kinds.push(Kind { advertise, max, clash });
             }
         }
     }

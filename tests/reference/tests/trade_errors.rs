@@ -53,12 +53,7 @@ fn duplicate_flow_control_and_groups() {
 #[test]
 fn last_of_two_controls() {
     let start = settled_card();
-    for second in [
-        control(0, 0, 7, 8),
-        control(0, 0, 1, 1),
-        (1, vec![]),
-        (1, vec![0xff; 30]),
-    ] {
+    for second in [control(0, 0, 7, 8), control(0, 0, 1, 1), (1, vec![]), (1, vec![0xff; 30])] {
         let mut card = start.clone();
         let mut list = sub_tlvs(5, 6, 0x80);
         list.push(second);
@@ -81,18 +76,12 @@ fn last_of_two_controls() {
 fn oldest_notices_kept() {
     let mut card = w2_card();
     for i in 0..100 {
-        let flag = if i % 3 == 0 {
-            Flag::Transmit
-        } else {
-            Flag::Receive
-        };
+        let flag = if i % 3 == 0 { Flag::Transmit } else { Flag::Receive };
         card.set_flag(flag, false);
         card.set_flag(flag, true);
     }
     assert_eq!(card.log().dropped(), 68);
-    let newest: Vec<_> = (68..100)
-        .map(|i| (if i % 3 == 0 { 4 } else { 5 }, 0))
-        .collect();
+    let newest: Vec<_> = (68..100).map(|i| (if i % 3 == 0 { 4 } else { 5 }, 0)).collect();
     assert_eq!(notices(&mut card), newest);
     // The count stays at its end.
     let mut card = w2_card();

@@ -49,11 +49,7 @@ pub fn w2_settings() -> OwnedSettings {
     };
     OwnedSettings {
         control_max: 0,
-        feature: [
-            (0, setting(&GROUPS)),
-            (0, setting(&FLOW)),
-            (0, setting(&APPLICATIONS)),
-        ],
+        feature: [(0, setting(&GROUPS)), (0, setting(&FLOW)), (0, setting(&APPLICATIONS))],
     }
 }
 
@@ -68,9 +64,7 @@ pub fn w2_card() -> Card {
 /// What the card would write; none if stopped.
 pub fn written(card: &Card) -> Option<Vec<u8>> {
     let mut octets = [0; LONGEST_FRAME];
-    card.write(&mut octets)
-        .ok()
-        .map(|length| octets[..length].to_vec())
+    card.write(&mut octets).ok().map(|length| octets[..length].to_vec())
 }
 
 pub type SubTlvs = Vec<(u8, Vec<u8>)>;

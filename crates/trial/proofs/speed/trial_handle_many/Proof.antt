@@ -1,0 +1,61 @@
+-- `trial::speed::trial_handle_many` is safe and ends. Assumes nothing.
+use borrow.Author.Needs.{needs}
+use Rattle.trial.proofs.speed.trial_handle_many.Statement.{statement}
+use Rattle.trial.proofs.speed.trial_handle_many.Tie as tie
+
+abbrev Inv-loop : tie.InvT-loop
+Inv-loop creation frames size times card₀ sum₀ at₀ left₀ card sum at left = Unit {0}
+
+abbrev μ-loop : tie.MeasureT-loop
+μ-loop creation frames size times card₀ sum₀ at₀ left₀ card sum at left = left
+
+create-requires : tie.Need-create-requires Inv-loop μ-loop
+create-requires c κs = search needs
+
+loop-holds : tie.Need-loop-holds Inv-loop μ-loop
+loop-holds c = tt
+
+frame-at-requires : tie.Need-frame-at-requires Inv-loop μ-loop
+frame-at-requires c κs = search needs
+
+handle-requires : tie.Need-handle-requires Inv-loop μ-loop
+handle-requires c κs = search needs
+
+told-requires : tie.Need-told-requires Inv-loop μ-loop
+told-requires c κs = search needs
+
+wrapping-add-u64-requires : tie.Need-wrapping-add-u64-requires Inv-loop μ-loop
+wrapping-add-u64-requires c κs = search needs
+
+place-behind-requires : tie.Need-place-behind-requires Inv-loop μ-loop
+place-behind-requires c κs = search needs
+
+sub-left : tie.Need-sub-left Inv-loop μ-loop
+sub-left c = search needs
+
+loop-less : tie.Need-loop-less Inv-loop μ-loop
+loop-less c = search needs
+
+loop-again : tie.Need-loop-again Inv-loop μ-loop
+loop-again c = tt
+
+returns : tie.Need-returns Inv-loop μ-loop
+returns c = search needs
+
+pub trial-handle-many-spec : {M : Type 1} → statement M
+trial-handle-many-spec =
+    tie.close
+    (tie.spec
+    Inv-loop
+    μ-loop
+    create-requires
+    loop-holds
+    frame-at-requires
+    handle-requires
+    told-requires
+    wrapping-add-u64-requires
+    place-behind-requires
+    sub-left
+    loop-less
+    loop-again
+    returns)

@@ -1,0 +1,63 @@
+-- `trial::speed::trial_write_many` is safe and ends; the output keeps its length. Assumes nothing.
+use lib.ListN.{length}
+use mathlib.Core.Path.{_≡_}
+use borrow.Author.Needs.{needs}
+use Rattle.trial.proofs.speed.trial_write_many.Statement.{statement}
+use Rattle.trial.proofs.speed.trial_write_many.Tie as tie
+
+abbrev Inv-loop : tie.InvT-loop
+Inv-loop creation times out₀ card₀ sum₀ left₀ out card sum left = length out ≡ length out₀
+
+abbrev μ-loop : tie.MeasureT-loop
+μ-loop creation times out₀ card₀ sum₀ left₀ out card sum left = left
+
+create-requires : tie.Need-create-requires Inv-loop μ-loop
+create-requires c κs = search needs
+
+loop-holds : tie.Need-loop-holds Inv-loop μ-loop
+loop-holds c = search needs
+
+with-ack-requires : tie.Need-with-ack-requires Inv-loop μ-loop
+with-ack-requires c κs = search needs
+
+write-requires : tie.Need-write-requires Inv-loop μ-loop
+write-requires c κs = search needs
+
+wrote-requires : tie.Need-wrote-requires Inv-loop μ-loop
+wrote-requires c κs = search needs
+
+wrapping-add-u64-requires : tie.Need-wrapping-add-u64-requires Inv-loop μ-loop
+wrapping-add-u64-requires c κs = search needs
+
+sub-left : tie.Need-sub-left Inv-loop μ-loop
+sub-left c = search needs
+
+loop-less : tie.Need-loop-less Inv-loop μ-loop
+loop-less c = search needs
+
+loop-again : tie.Need-loop-again Inv-loop μ-loop
+loop-again c = search needs
+
+same-length : tie.Need-same-length Inv-loop μ-loop
+same-length c = search needs
+
+returns : tie.Need-returns Inv-loop μ-loop
+returns c = search needs
+
+pub trial-write-many-spec : {M : Type 1} → statement M
+trial-write-many-spec =
+    tie.close
+    (tie.spec
+    Inv-loop
+    μ-loop
+    create-requires
+    loop-holds
+    with-ack-requires
+    write-requires
+    wrote-requires
+    wrapping-add-u64-requires
+    sub-left
+    loop-less
+    loop-again
+    same-length
+    returns)

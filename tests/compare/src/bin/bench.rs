@@ -1,0 +1,235 @@
+//! The proved engine beside the reference, on the same input in the same run:
+//! nanoseconds for one operation, and their ratio. `make bench` from the top.
+//! Words behind `bench` name the rows to be measured, each by its start.
+
+use compare::{engine, script};
+use reference::events::{OwnedSetting, OwnedSettings};
+use reference::layout::{self, Found, LONGEST_FRAME};
+use reference::Card;
+use std::hint::black_box;
+use std::io::Write;
+use std::path::Path;
+use std::process::{Command, Stdio};
+use std::time::{Duration, Instant};
+
+/// Operations in one measurement, and measurements of each side; the shortest counts.
+const TIMES: usize = 10_000;
+const MEASUREMENTS: usize = 100;
+/// Frames that are read or handled in turn.
+const FRAMES: usize = 64;
+const LINES: usize = 1_000_000;
+
+/// W2's settings with so many applications.
+fn settings(applications: u8) -> OwnedSettings {
+    let setting =
+        |parameters| OwnedSetting { advertise: true, enable: true, willing: false, parameters };
+    let entries = (0..applications).flat_map(|i| [0x89, 0x06 + i, 0, 0x1b, 0x21, 8]).collect();
+    OwnedSettings {
+        control_max: 0,
+        feature: [
+            (0, setting(vec![0, 1, 0, 0, 50, 50, 0, 0, 0, 0, 0, 0, 2])),
+            (0, setting(vec![8, 8])),
+            (0, setting(entries)),
+        ],
+    }
+}
+
+/// Frames of the other end, SeqNo going up, AckNo right; with `clash` each
+/// second one has another flow control mask, so that Error comes and goes.
+fn frames(settings: &OwnedSettings, clash: bool) -> (Vec<u8>, usize) {
+    let card = Card::create(&settings.lend()).expect("valid settings");
+    let mut octets = [0; LONGEST_FRAME];
+    let size = card.write(&mut octets).expect("room");
+    let mut frames = Vec::new();
+    for i in 0..FRAMES {
+        let frame = &mut octets[..size];
+        frame[13] = i as u8;
+        frame[17] = 1;
+        if clash {
+            let mask = 6 + 12 + 19 + 6;
+            frame[mask] = if i % 2 == 0 { 0x10 } else { 0x08 };
+        }
+        frames.extend_from_slice(frame);
+    }
+    (frames, size)
+}
+
+#[inline(never)]
+fn read_many(frames: &[u8], size: usize, times: usize) -> u64 {
+    let all = frames.chunks_exact(size).cycle();
+    all.take(times).fold(0, |sum: u64, frame| {
+        let place = |found| match found {
+            Found::Once(body) => body.as_ptr() as u64 - frame.as_ptr() as u64 + body.len() as u64,
+            _ => 0,
+        };
+        let seen = match layout::read(frame) {
+            Ok(read) => place(read.groups) + place(read.flow) + place(read.applications),
+            Err(number) => number.into(),
+        };
+        sum.wrapping_add(seen)
+    })
+}
+
+#[inline(never)]
+fn handle_many(settings: &OwnedSettings, frames: &[u8], size: usize, times: usize) -> u64 {
+    let mut card = Card::create(&settings.lend()).expect("valid settings");
+    let all = frames.chunks_exact(size).cycle();
+    all.take(times).fold(0, |sum: u64, frame| {
+        let told = match card.frame(frame) {
+            Ok(wish) => wish.into(),
+            Err(number) => number.into(),
+        };
+        sum.wrapping_add(told)
+    })
+}
+
+#[inline(never)]
+fn write_many(settings: &OwnedSettings, times: u32, out: &mut [u8]) -> u64 {
+    let mut card = Card::create(&settings.lend()).expect("valid settings");
+    (1..=times).rev().fold(0, |sum: u64, ackno| {
+        let seqno = card.control().seqno;
+        card.set_numbers(seqno, ackno, 0, [1; 3]);
+        let told = match card.write(out) {
+            Ok(_) => out[17].into(),
+            Err(number) => number.into(),
+        };
+        sum.wrapping_add(told)
+    })
+}
+
+fn time<T>(work: impl FnOnce() -> T) -> (Duration, T) {
+    let start = Instant::now();
+    let result = black_box(work());
+    (start.elapsed(), result)
+}
+
+/// Whether a row is to be measured.
+fn wanted(name: &str) -> bool {
+    let mut starts = std::env::args().skip(1).peekable();
+    starts.peek().is_none() || starts.any(|start| name.starts_with(&start))
+}
+
+/// Measures both sides in turn; they must come to the same.
+fn compare(name: &str, mut engine: impl FnMut() -> u64, mut reference: impl FnMut() -> u64) {
+    if !wanted(name) {
+        return;
+    }
+    let mut best = [Duration::MAX; 2];
+    for _ in 0..MEASUREMENTS {
+        let (ours, a) = time(&mut engine);
+        let (theirs, b) = time(&mut reference);
+        assert_eq!(a, b, "{name}: the engines come to different sums");
+        best = [best[0].min(ours), best[1].min(theirs)];
+    }
+    let [engine, reference] = best.map(|time| time.as_nanos() as f64 / TIMES as f64);
+    row(name, engine, reference, "1.5");
+}
+
+fn row(name: &str, engine: f64, reference: f64, bar: &str) {
+    let ratio = engine / reference;
+    println!("{name:44} {engine:10.1} {reference:10.1} {ratio:8.2} {bar:>6}");
+}
+
+fn engines() {
+    for (name, applications) in [("W2 frame", 1), ("frame of 16 entries", 16)] {
+        let settings = settings(applications);
+        let creation = script::creation(&settings);
+        let (plain, size) = frames(&settings, false);
+        let (clashing, _) = frames(&settings, true);
+        compare(
+            &format!("read, {name}"),
+            || engine::read_many(&plain, size, TIMES),
+            || read_many(black_box(&plain), size, TIMES),
+        );
+        compare(
+            &format!("handle, {name}"),
+            || engine::handle_many(&creation, &plain, size, TIMES),
+            || handle_many(&settings, black_box(&plain), size, TIMES),
+        );
+        compare(
+            &format!("handle, {name}, Error changes"),
+            || engine::handle_many(&creation, &clashing, size, TIMES),
+            || handle_many(&settings, black_box(&clashing), size, TIMES),
+        );
+        let (mut ours, mut theirs) = ([0; LONGEST_FRAME], [0; LONGEST_FRAME]);
+        compare(
+            &format!("write, {name}"),
+            || engine::write_many(&creation, TIMES as u32, &mut ours),
+            || write_many(&settings, TIMES as u32, black_box(&mut theirs)),
+        );
+        assert_eq!(ours, theirs);
+    }
+}
+
+/// A million events: frames, writes, changes of settings, flags and takes.
+fn desk_input() -> Vec<u8> {
+    let settings = settings(1);
+    let (plain, size) = frames(&settings, false);
+    let (clashing, _) = frames(&settings, true);
+    let hex = |frame: &[u8]| -> String { frame.iter().map(|o| format!("{o:02x}")).collect() };
+    let plain: Vec<String> = plain.chunks_exact(size).map(hex).collect();
+    let clashing: Vec<String> = clashing.chunks_exact(size).map(hex).collect();
+    let mut text = b"control 0\n\
+        groups 0 1 1 0 0 0 0 1 0 0 0 0 50 50 0 0 0 0 0 0 2\n\
+        flow 0 1 1 0 08 8\n\
+        applications 0 1 1 0 0 8906 08\n"
+        .to_vec();
+    for i in 0..LINES {
+        let frame = i / 20 % FRAMES;
+        match i % 20 {
+            16 => writeln!(text, "B {}", clashing[frame]).unwrap(),
+            17 => writeln!(text, "write 147").unwrap(),
+            18 if frame.is_multiple_of(8) => {
+                writeln!(text, "set flow 1 1 {} 08 8", i / 160 % 2).unwrap()
+            }
+            19 => writeln!(text, "take").unwrap(),
+            _ => writeln!(text, "B {}", plain[frame]).unwrap(),
+        }
+    }
+    text
+}
+
+/// Runs a program over an input, and gives what it wrote.
+fn run(program: &Path, input: &Path) -> Vec<u8> {
+    let output = Command::new(program)
+        .stdin(std::fs::File::open(input).expect("the input"))
+        .stdout(Stdio::piped())
+        .output()
+        .unwrap_or_else(|error| panic!("{}: {error}", program.display()));
+    output.stdout
+}
+
+fn desks() {
+    let root = Path::new(env!("CARGO_MANIFEST_DIR"));
+    let ours = root.join("../../target/bin/desk");
+    let theirs = root.join("../reference/target/release/desk");
+    if !wanted("desk") {
+        return;
+    }
+    if !ours.exists() || !theirs.exists() {
+        println!("desk: not measured, {} or {} is not built", ours.display(), theirs.display());
+        return;
+    }
+    let input = root.join("target/desk.in");
+    std::fs::write(&input, desk_input()).expect("the input");
+    let mut best = [Duration::MAX; 2];
+    for _ in 0..5 {
+        let (first, a) = time(|| run(&ours, &input));
+        let (second, b) = time(|| run(&theirs, &input));
+        assert!(a == b, "the desks answer differently");
+        best = [best[0].min(first), best[1].min(second)];
+    }
+    std::fs::remove_file(&input).expect("the input");
+    let [engine, reference] = best.map(|time| time.as_nanos() as f64 / LINES as f64);
+    row("desk, a line", engine, reference, "2.0");
+}
+
+fn main() {
+    println!(
+        "{:44} {:>10} {:>10} {:>8} {:>6}",
+        "nanoseconds", "engine", "reference", "ratio", "bar"
+    );
+    engines();
+    desks();
+    println!("a card of the reference: {} octets", std::mem::size_of::<Card>());
+}

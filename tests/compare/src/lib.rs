@@ -1,0 +1,7 @@
+//! The proved engine (crates/trial) beside the reference engine.
+
+pub mod engine;
+pub mod script;
+pub mod words;
+
+pub use script::{Script, Step};
