@@ -1,19 +1,29 @@
-# make test: the gate. make bench: speed beside the reference implementation.
+# make run: will two boxes agree? make test: the gate. make bench: speed beside the reference implementation.
 
+SHELL := /bin/bash -o pipefail
 CARGO := cargo --offline --quiet
 REFERENCE := --release --manifest-path tests/reference/Cargo.toml
 COMPARE := --release --manifest-path tests/compare/Cargo.toml
+VERDICT := .ci/verdict
 
-.PHONY: test bench
+.PHONY: run test bench
 
-# rt ci comes last: it removes target/, and the last line is its verdict.
+run:
+	rt check pair
+	@echo
+	target/bin/pair < examples/two-recorders.txt
+
+# What needs the proved library and programs runs over what `rt ci` has left in target/; its verdict comes last again.
 test:
 	$(CARGO) test $(REFERENCE)
+	rt ci | tee $(VERDICT)
 	rt staticlib trial
 	$(CARGO) test $(COMPARE) -- --nocapture
-	rt ci
+	tests/runs/check.sh target/bin
+	@tail -n 1 $(VERDICT)
 
 bench:
 	rt staticlib trial
+	rt check desk
 	$(CARGO) build $(REFERENCE) --bins
 	$(CARGO) run $(COMPARE) --bin bench

@@ -1,0 +1,171 @@
+// Events at a card, a line each, and their answers.
+use card::Card;
+use card::Handled;
+use card::Took;
+use feature::Switches;
+use notices::Log;
+use port::Answer;
+use port::Flag;
+use port::Written;
+use script::Kind;
+use script::Line;
+
+// What an event leaves: the card, and the place behind its answer.
+pub struct Step {
+    pub card: Card,
+    pub at: usize,
+}
+
+// How many notices were written between two states of a log.
+fn written(before: Log, after: Log) -> usize {
+    let held = after.count;
+    let dropped = std::num::wrapping_sub_u32(after.dropped, before.dropped) as usize;
+    let all = std::num::wrapping_add_usize(held, dropped);
+    let new = std::num::wrapping_sub_usize(all, before.count);
+    if held < new {
+        return held;
+    }
+    new
+}
+
+// The answer, and the notices that the event wrote.
+fn answered(out: &mut [u8], at: usize, before: Log, h: Handled) -> Step {
+    let card = h.card;
+    let after = card.log;
+    let answer = h.answer;
+    match answer {
+        Answer::Refused(r) => {
+            return Step {
+                card: card,
+                at: report::answers::refused(out, at, r),
+            };
+        }
+        Answer::Done(send) => {
+            let behind = report::answers::done(out, at, send);
+            let new = written(before, after);
+            let from = std::num::wrapping_sub_usize(after.count, new);
+            return Step {
+                card: card,
+                at: report::states::notice_lines(out, behind, b"", after, from),
+            };
+        }
+    }
+}
+
+fn handle(out: &mut [u8], at: usize, c: Card, l: Line) -> Step {
+    let log = c.log;
+    let o = l.octets;
+    answered(out, at, log, card::handle(c, octets::first(&o, l.n)))
+}
+
+fn port_flag(f: script::Flag) -> Flag {
+    match f {
+        script::Flag::Admin => Flag::Admin,
+        script::Flag::Receive => Flag::Receive,
+        script::Flag::Transmit => Flag::Transmit,
+        script::Flag::Several => Flag::Several,
+    }
+}
+
+fn set_flag(out: &mut [u8], at: usize, c: Card, f: script::Flag, on: bool) -> Step {
+    let log = c.log;
+    answered(out, at, log, card::set_flag(c, port_flag(f), on))
+}
+
+fn change_setting(out: &mut [u8], at: usize, c: Card, number: u8, w: Switches, l: Line) -> Step {
+    let log = c.log;
+    let o = l.octets;
+    answered(
+        out,
+        at,
+        log,
+        card::change_setting(c, number, w, octets::first(&o, l.n)),
+    )
+}
+
+fn peer_gone(out: &mut [u8], at: usize, c: Card) -> Step {
+    let log = c.log;
+    answered(out, at, log, card::peer_gone(c))
+}
+
+// Writes the frame into an output of `room` octets, or of all where there are fewer.
+fn write_into(c: Card, out: &mut [u8], room: usize) -> Written {
+    if room < out.len() {
+        return card::write(c, &mut out[..room]);
+    }
+    card::write(c, out)
+}
+
+// The frame that a request to write gives, or its refusal.
+fn write(out: &mut [u8], at: usize, c: Card, room: usize) -> usize {
+    let mut space = [0; 1000];
+    let w = write_into(c, &mut space, room);
+    match w {
+        Written::Octets(k) => report::answers::frame(out, at, octets::first(&space, k)),
+        Written::Refused(r) => report::answers::refused(out, at, r),
+    }
+}
+
+fn take(out: &mut [u8], at: usize, c: Card) -> Step {
+    let t = card::take(c);
+    let card = t.card;
+    let answer = t.answer;
+    match answer {
+        Took::Notice(n) => {
+            return Step {
+                card: card,
+                at: report::answers::notice(out, at, n),
+            };
+        }
+        Took::Refused(r) => {
+            return Step {
+                card: card,
+                at: report::answers::refused(out, at, r),
+            };
+        }
+    }
+}
+
+// The event on one line, which is the line with a number. A line that is passed over has no answer.
+pub fn event(out: &mut [u8], at: usize, c: Card, number: u64, line: &[u8]) -> Step {
+    if script::is_passed_over(line) {
+        return Step { card: c, at: at };
+    }
+    let l = script::parse_event(line);
+    let kind = l.kind;
+    match kind {
+        Kind::Frame => handle(out, at, c, l),
+        Kind::Gone => peer_gone(out, at, c),
+        Kind::Flag(f, on) => set_flag(out, at, c, f, on),
+        Kind::Setting {
+            number: feature,
+            advertise,
+            enable,
+            willing,
+        } => {
+            let w = Switches {
+                advertise: advertise,
+                enable: enable,
+                willing: willing,
+            };
+            change_setting(out, at, c, feature, w, l)
+        }
+        Kind::Write(room) => Step {
+            card: c,
+            at: write(out, at, c, room),
+        },
+        Kind::Take => take(out, at, c),
+        Kind::Show => Step {
+            card: c,
+            at: report::states::show(out, at, c),
+        },
+        Kind::Control(_) => Step {
+            card: c,
+            at: report::answers::unread(out, at, number),
+        },
+        Kind::Unreadable => Step {
+            card: c,
+            at: report::answers::unread(out, at, number),
+        },
+    }
+}

@@ -1,0 +1,199 @@
+// Lines of standard input, and the settings that stand in them. The caller lends the buffer.
+ghost use mathlib.Core.Path.{_≡_};
+ghost use Prim.Native.Nat.{_+_, _-_, _≤_};
+ghost use lib.ListN.{length};
+
+pub mod events;
+pub mod settings;
+
+const LINE_FEED: u8 = 10;
+
+// What is kept of a line that fills the whole buffer: enough to see that it cannot be read, or is a comment.
+const KEPT: usize = 4096;
+
+// Where the reading stands: the buffer holds octets up to `end`, those before `next` are done with, and the line that was
+// found last stands from `from` to `to`. `number` counts the lines.
+pub struct Lines {
+    pub number: u64,
+    pub found: bool,
+    pub from: usize,
+    pub to: usize,
+    pub next: usize,
+    pub end: usize,
+    pub open: bool,
+}
+
+// Nothing is read yet.
+pub fn start() -> Lines {
+    Lines {
+        number: 0,
+        found: false,
+        from: 0,
+        to: 0,
+        next: 0,
+        end: 0,
+        open: true,
+    }
+}
+
+// The line that was found last.
+pub fn line(buffer: &[u8], l: Lines) -> &[u8] {
+    octets::from(octets::first(buffer, l.to), l.from)
+}
+
+// The octets that are held and not done with.
+fn held(buffer: &[u8], next: usize, end: usize) -> &[u8]
+    ensures { λ r. ⌜ length (now r) ≤ length (now (buffer .entry)) - next ⌝ }
+{
+    octets::from(octets::first(buffer, end), next)
+}
+
+// How many octets stand before the first line feed.
+fn line_length(s: &[u8]) -> usize
+    ensures { λ r. ⌜ r ≤ length (now (s .entry)) ⌝ }
+{
+    let mut i: usize = 0;
+    while i < s.len() {
+        if s[i] == LINE_FEED {
+            return i;
+        }
+        i += 1;
+    }
+    i
+}
+
+fn nothing_found(l: Lines) -> Lines {
+    let mut next = l;
+    next.found = false;
+    next
+}
+
+// Looks for the next line among the octets that are held. The last line may lack its line feed.
+pub fn seek(buffer: &[u8], l: Lines) -> Lines {
+    let next = l.next;
+    let rest = held(buffer, next, l.end);
+    let n = line_length(rest);
+    if n < rest.len() {
+        return Lines {
+            number: std::num::wrapping_add_u64(l.number, 1),
+            found: true,
+            from: next,
+            to: next + n,
+            next: next + n + 1,
+            end: l.end,
+            open: l.open,
+        };
+    }
+    if l.open {
+        return nothing_found(l);
+    }
+    if n == 0 {
+        return nothing_found(l);
+    }
+    Lines {
+        number: std::num::wrapping_add_u64(l.number, 1),
+        found: true,
+        from: next,
+        to: next + n,
+        next: next + n,
+        end: l.end,
+        open: false,
+    }
+}
+
+// Moves the `n` octets from `next` on to the front.
+fn shift(buffer: &mut [u8], next: usize, n: usize) {
+    let mut i: usize = 0;
+    while i < n {
+        let x = octets::octet(octets::from(buffer, next), i);
+        if buffer.len() <= i {
+            return;
+        }
+        buffer[i] = x;
+        i += 1;
+    }
+}
+
+// One read of standard input.
+fn read_once(part: &mut [u8]) -> usize
+    ensures { λ r. ⌜ r ≤ length (now (part .entry)) ⌝ }
+{
+    let got = libc::read(0, part);
+    io::count(got, part)
+}
+
+// What is left of the buffer behind `kept` octets is filled by one read.
+fn read_behind(buffer: &mut [u8], kept: usize) -> usize
+    ensures { λ r. ⌜ r ≤ length (now (buffer .entry)) ⌝ }
+{
+    if kept < buffer.len() {
+        return read_once(&mut buffer[kept..]);
+    }
+    0
+}
+
+// How many octets are kept: all that are held, but of a line that fills the buffer only its front.
+fn kept(n: usize, room: usize) -> usize
+    ensures { λ r. ⌜ r ≤ n ⌝ }
+{
+    if n < room {
+        return n;
+    }
+    if KEPT < n {
+        return KEPT;
+    }
+    n
+}
+
+// Reads once more. A read that gives nothing is the end of the input.
+fn more(buffer: &mut [u8], l: Lines) -> Lines {
+    let n = held(buffer, l.next, l.end).len();
+    shift(buffer, l.next, n);
+    let old = kept(n, buffer.len());
+    let new = read_behind(buffer, old);
+    Lines {
+        number: l.number,
+        found: false,
+        from: 0,
+        to: 0,
+        next: 0,
+        end: old + new,
+        open: 0 < new,
+    }
+}
+
+// Reads until a line is found or the input is over. A proved loop ends: it counts its turns down, from a number that no run
+// uses up.
+pub fn fetch(buffer: &mut [u8], l: Lines) -> Lines {
+    let mut now = l;
+    let mut turns = u64::MAX;
+    while 0 < turns {
+        now = seek(buffer, now);
+        if now.found {
+            return now;
+        }
+        if !now.open {
+            return now;
+        }
+        now = more(buffer, now);
+        turns -= 1;
+    }
+    now
+}
+
+// The next line that is not passed over.
+pub fn next_line(buffer: &mut [u8], l: Lines) -> Lines {
+    let mut now = l;
+    let mut turns = u64::MAX;
+    while 0 < turns {
+        now = fetch(buffer, now);
+        if !now.found {
+            return now;
+        }
+        if !script::is_passed_over(line(buffer, now)) {
+            return now;
+        }
+        turns -= 1;
+    }
+    now
+}

@@ -1,0 +1,118 @@
+// The desk: the settings of one end, then events, one a line, each answered before the next is read (docs/FORMATS.md).
+use card::Card;
+use console::Lines;
+
+// What an answer may take of the output; the longest, of `show`, is shorter.
+const ROOM: usize = 16384;
+
+// Writes out what stands before `at`.
+fn flush(output: &[u8], at: usize) {
+    io::write_all(1, octets::first(output, at));
+}
+
+// Where the next answer goes: at the front again, once the output is nearly full.
+fn placed(output: &[u8], at: usize) -> usize {
+    if output.len() < ROOM {
+        return at;
+    }
+    if at <= output.len() - ROOM {
+        return at;
+    }
+    flush(output, at);
+    0
+}
+
+// The line that was found, and where its answer goes.
+struct Place {
+    lines: Lines,
+    at: usize,
+}
+
+// The next line. The output is written out before each read.
+fn next(input: &mut [u8], output: &[u8], l: Lines, at: usize) -> Place {
+    let lines = console::seek(input, l);
+    if lines.found {
+        return Place {
+            lines: lines,
+            at: placed(output, at),
+        };
+    }
+    flush(output, at);
+    Place {
+        lines: console::fetch(input, lines),
+        at: 0,
+    }
+}
+
+// The card, the line that was found last, and where the next answer goes.
+struct Desk {
+    card: Card,
+    lines: Lines,
+    at: usize,
+}
+
+// One event; where the input is over, none.
+fn turn(input: &mut [u8], output: &mut [u8], d: Desk) -> Desk {
+    let old = d.lines;
+    let card = d.card;
+    let p = next(input, output, old, d.at);
+    let lines = p.lines;
+    if !lines.found {
+        return Desk {
+            card: card,
+            lines: lines,
+            at: p.at,
+        };
+    }
+    let line = console::line(input, lines);
+    let step = console::events::event(output, p.at, card, lines.number, line);
+    let after = step.card;
+    Desk {
+        card: after,
+        lines: lines,
+        at: step.at,
+    }
+}
+
+// The events, to the end of the input. A proved loop ends: it counts its turns down, from a number that no run uses up.
+fn run(input: &mut [u8], output: &mut [u8], start: Desk) {
+    let mut d = start;
+    let mut more = true;
+    let mut turns = u64::MAX;
+    while 0 < turns && more {
+        d = turn(input, output, d);
+        let lines = d.lines;
+        more = lines.found;
+        turns -= 1;
+    }
+}
+
+fn main() {
+    let mut input = io::large_buffer();
+    let mut output = io::large_buffer();
+    let s = console::settings::read_end(&mut input, console::start());
+    let lines = s.lines;
+    if !s.good {
+        let at = report::answers::unread_setting(
+            &mut output,
+            0,
+            console::settings::unread_line(lines),
+        );
+        flush(&output, at);
+        return;
+    }
+    let bad = console::settings::invalid_line(s);
+    if bad != 0 {
+        let at = report::answers::refused_setting(&mut output, 0, bad);
+        flush(&output, at);
+        return;
+    }
+    let made = console::settings::create(s);
+    let card = made.card;
+    let start = Desk {
+        card: card,
+        lines: lines,
+        at: 0,
+    };
+    run(&mut input, &mut output, start);
+}

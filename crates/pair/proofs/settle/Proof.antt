@@ -1,0 +1,49 @@
+-- `settle` is safe and ends. Assumes nothing.
+use borrow.Author.Needs.{needs}
+use Rattle.pair.proofs.settle.Statement.{statement}
+use Rattle.pair.proofs.settle.Tie as tie
+
+abbrev Inv-loop : tie.InvT-loop
+Inv-loop e₀ left₀ e left = Unit {0}
+
+abbrev μ-loop : tie.MeasureT-loop
+μ-loop e₀ left₀ e left = left
+
+loop-holds : tie.Need-loop-holds Inv-loop μ-loop
+loop-holds c = tt
+
+both-settled-requires : tie.Need-both-settled-requires Inv-loop μ-loop
+both-settled-requires c κs = search needs
+
+round-requires : tie.Need-round-requires Inv-loop μ-loop
+round-requires c κs = search needs
+
+sub-left : tie.Need-sub-left Inv-loop μ-loop
+sub-left c = search needs
+
+loop-less : tie.Need-loop-less Inv-loop μ-loop
+loop-less c = search needs
+
+loop-again : tie.Need-loop-again Inv-loop μ-loop
+loop-again c = tt
+
+returns : tie.Need-returns Inv-loop μ-loop
+returns c = tt
+
+returns-2 : tie.Need-returns-2 Inv-loop μ-loop
+returns-2 c = tt
+
+pub settle-spec : {M : Type 1} → statement M
+settle-spec =
+    tie.close
+    (tie.spec
+    Inv-loop
+    μ-loop
+    loop-holds
+    both-settled-requires
+    round-requires
+    sub-left
+    loop-less
+    loop-again
+    returns
+    returns-2)

@@ -1,0 +1,12 @@
+-- `bare` meets its contract. Assumes nothing.
+use mathlib.Core.Path.{refl}
+use Rattle.script.specs.Lines.{lineOf, filled}
+use Rattle.script.proofs.bare.Statement.{statement}
+use Rattle.script.proofs.bare.Tie as tie
+
+returns : tie.Need-returns
+unfolding lineOf filled
+returns c = refl
+
+pub bare-spec : {M : Type 1} → statement M
+bare-spec = tie.close (tie.spec returns)

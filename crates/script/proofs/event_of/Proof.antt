@@ -1,0 +1,109 @@
+-- `event_of` meets its contract. Assumes nothing.
+use Rattle.script.specs.Lines.{eventOf}
+use borrow.Author.Needs.{needs}
+use Rattle.script.proofs.event_of.Statement.{statement}
+use Rattle.script.proofs.event_of.Tie as tie
+
+enum-told : tie.Need-enum-told
+enum-told c = search needs
+
+alone-requires : tie.Need-alone-requires
+alone-requires c κs = search needs
+
+enum-told-2 : tie.Need-enum-told-2
+enum-told-2 c = search needs
+
+alone-requires-2 : tie.Need-alone-requires-2
+alone-requires-2 c κs = search needs
+
+enum-told-3 : tie.Need-enum-told-3
+enum-told-3 c = search needs
+
+alone-requires-3 : tie.Need-alone-requires-3
+alone-requires-3 c κs = search needs
+
+enum-told-4 : tie.Need-enum-told-4
+enum-told-4 c = search needs
+
+change-requires : tie.Need-change-requires
+change-requires c κs = search needs
+
+enum-told-5 : tie.Need-enum-told-5
+enum-told-5 c = search needs
+
+one-field-requires : tie.Need-one-field-requires
+one-field-requires c κs = search needs
+
+write-line-requires : tie.Need-write-line-requires
+write-line-requires c κs = search needs
+
+enum-known-k : tie.Need-enum-known-k
+enum-known-k c = search needs
+
+one-field-requires-2 : tie.Need-one-field-requires-2
+one-field-requires-2 c κs = search needs
+
+flag-line-requires : tie.Need-flag-line-requires
+flag-line-requires c κs = search needs
+
+enum-told-6 : tie.Need-enum-told-6
+enum-told-6 c = search needs
+
+bare-requires : tie.Need-bare-requires
+bare-requires c κs = search needs
+
+returns : tie.Need-returns
+unfolding eventOf
+returns c = cc
+
+returns-2 : tie.Need-returns-2
+unfolding eventOf
+returns-2 c = cc
+
+returns-3 : tie.Need-returns-3
+unfolding eventOf
+returns-3 c = cc
+
+returns-4 : tie.Need-returns-4
+unfolding eventOf
+returns-4 c = cc
+
+returns-5 : tie.Need-returns-5
+unfolding eventOf
+returns-5 c = cc
+
+returns-6 : tie.Need-returns-6
+unfolding eventOf
+returns-6 c = cc
+
+returns-7 : tie.Need-returns-7
+unfolding eventOf
+returns-7 c = cc
+
+pub event-of-spec : {M : Type 1} → statement M
+event-of-spec =
+    tie.close
+    (tie.spec
+    enum-told
+    alone-requires
+    enum-told-2
+    alone-requires-2
+    enum-told-3
+    alone-requires-3
+    enum-told-4
+    change-requires
+    enum-told-5
+    one-field-requires
+    write-line-requires
+    enum-known-k
+    one-field-requires-2
+    flag-line-requires
+    enum-told-6
+    bare-requires
+    returns
+    returns-2
+    returns-3
+    returns-4
+    returns-5
+    returns-6
+    returns-7)

@@ -1,0 +1,19 @@
+-- `due_applications` meets its contract. Assumes nothing.
+use Rattle.script.specs.FormsLaws.{due-bit, due-selector, due-id, due-map}
+use Rattle.script.proofs.forms.due_applications.Statement.{statement}
+use Rattle.script.proofs.forms.due_applications.Tie as tie
+
+returns : tie.Need-returns
+returns c = search due-bit
+
+returns-2 : tie.Need-returns-2
+returns-2 c = search due-selector
+
+returns-3 : tie.Need-returns-3
+returns-3 c = search due-id
+
+returns-4 : tie.Need-returns-4
+returns-4 c = search due-map
+
+pub due-applications-spec : {M : Type 1} → statement M
+due-applications-spec = tie.close (tie.spec returns returns-2 returns-3 returns-4)

@@ -1,0 +1,73 @@
+-- `parameter_at` meets its contract. Assumes nothing.
+use Rattle.script.specs.Forms.{parameterAt}
+use borrow.Author.Needs.{needs}
+use Rattle.script.proofs.forms.parameter_at.Statement.{statement}
+use Rattle.script.proofs.forms.parameter_at.Tie as tie
+
+enum-told : tie.Need-enum-told
+enum-told c = search needs
+
+groups-octet-requires : tie.Need-groups-octet-requires
+groups-octet-requires c κs = search needs
+
+enum-told-2 : tie.Need-enum-told-2
+enum-told-2 c = search needs
+
+add-number-at : tie.Need-add-number-at
+add-number-at c = search needs
+
+number-at-requires : tie.Need-number-at-requires
+number-at-requires c κs = search needs
+
+low-requires : tie.Need-low-requires
+low-requires c κs = search needs
+
+enum-told-3 : tie.Need-enum-told-3
+enum-told-3 c = search needs
+
+mul-entry-octet : tie.Need-mul-entry-octet
+mul-entry-octet c = search needs
+
+add-entry-octet : tie.Need-add-entry-octet
+add-entry-octet c = search needs
+
+entry-octet-requires : tie.Need-entry-octet-requires
+entry-octet-requires c κs = search needs
+
+enum-told-4 : tie.Need-enum-told-4
+enum-told-4 c = search needs
+
+returns : tie.Need-returns
+returns c = cc
+
+returns-2 : tie.Need-returns-2
+unfolding parameterAt
+returns-2 c = cc
+
+returns-3 : tie.Need-returns-3
+unfolding parameterAt
+returns-3 c = cc
+
+returns-4 : tie.Need-returns-4
+unfolding parameterAt
+returns-4 c = cc
+
+pub parameter-at-spec : {M : Type 1} → statement M
+parameter-at-spec =
+    tie.close
+    (tie.spec
+    enum-told
+    groups-octet-requires
+    enum-told-2
+    add-number-at
+    number-at-requires
+    low-requires
+    enum-told-3
+    mul-entry-octet
+    add-entry-octet
+    entry-octet-requires
+    enum-told-4
+    returns
+    returns-2
+    returns-3
+    returns-4)

@@ -1,0 +1,58 @@
+-- `parse_event` meets its contract. Assumes nothing.
+use Rattle.script.specs.LinesLaws.{event-long, frame-line, event-line}
+use borrow.Author.Needs.{needs}
+use Rattle.script.proofs.parse_event.Statement.{statement}
+use Rattle.script.proofs.parse_event.Tie as tie
+
+bare-requires : tie.Need-bare-requires
+bare-requires c κs = search needs
+
+returns : tie.Need-returns
+returns c = search event-long
+
+is-frame-requires : tie.Need-is-frame-requires
+is-frame-requires c κs = search needs
+
+from-requires : tie.Need-from-requires
+from-requires c κs = search needs
+
+octets-count-requires : tie.Need-octets-count-requires
+octets-count-requires c κs = search needs
+
+octets-of-requires : tie.Need-octets-of-requires
+octets-of-requires c κs = search needs
+
+returns-2 : tie.Need-returns-2
+returns-2 c = search frame-line
+
+word-requires : tie.Need-word-requires
+word-requires c κs = search needs
+
+keyword-of-requires : tie.Need-keyword-of-requires
+keyword-of-requires c κs = search needs
+
+behind-requires : tie.Need-behind-requires
+behind-requires c κs = search needs
+
+event-of-requires : tie.Need-event-of-requires
+event-of-requires c κs = search needs
+
+returns-3 : tie.Need-returns-3
+returns-3 c = search event-line
+
+pub parse-event-spec : {M : Type 1} → statement M
+parse-event-spec =
+    tie.close
+    (tie.spec
+    bare-requires
+    returns
+    is-frame-requires
+    from-requires
+    octets-count-requires
+    octets-of-requires
+    returns-2
+    word-requires
+    keyword-of-requires
+    behind-requires
+    event-of-requires
+    returns-3)

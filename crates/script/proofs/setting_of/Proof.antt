@@ -1,0 +1,76 @@
+-- `setting_of` meets its contract. Assumes nothing.
+use Rattle.script.specs.LinesLaws.{setting-groups, setting-flow, setting-applications}
+use Rattle.script.specs.Lines.{settingOf}
+use borrow.Author.Needs.{needs}
+use Rattle.script.proofs.setting_of.Statement.{statement}
+use Rattle.script.proofs.setting_of.Tie as tie
+
+word-requires : tie.Need-word-requires
+word-requires c κs = search needs
+
+read-number-requires : tie.Need-read-number-requires
+read-number-requires c κs = search needs
+
+behind-requires : tie.Need-behind-requires
+behind-requires c κs = search needs
+
+enum-told : tie.Need-enum-told
+enum-told c = search needs
+
+one-field-requires : tie.Need-one-field-requires
+one-field-requires c κs = search needs
+
+control-requires : tie.Need-control-requires
+control-requires c κs = search needs
+
+enum-told-2 : tie.Need-enum-told-2
+enum-told-2 c = search needs
+
+feature-requires : tie.Need-feature-requires
+feature-requires c κs = search needs
+
+enum-told-3 : tie.Need-enum-told-3
+enum-told-3 c = search needs
+
+feature-requires-2 : tie.Need-feature-requires-2
+feature-requires-2 c κs = search needs
+
+enum-told-4 : tie.Need-enum-told-4
+enum-told-4 c = search needs
+
+feature-requires-3 : tie.Need-feature-requires-3
+feature-requires-3 c κs = search needs
+
+returns : tie.Need-returns
+unfolding settingOf
+returns c = cc
+
+returns-2 : tie.Need-returns-2
+returns-2 c = search setting-groups
+
+returns-3 : tie.Need-returns-3
+returns-3 c = search setting-flow
+
+returns-4 : tie.Need-returns-4
+returns-4 c = search setting-applications
+
+pub setting-of-spec : {M : Type 1} → statement M
+setting-of-spec =
+    tie.close
+    (tie.spec
+    word-requires
+    read-number-requires
+    behind-requires
+    enum-told
+    one-field-requires
+    control-requires
+    enum-told-2
+    feature-requires
+    enum-told-3
+    feature-requires-2
+    enum-told-4
+    feature-requires-3
+    returns
+    returns-2
+    returns-3
+    returns-4)

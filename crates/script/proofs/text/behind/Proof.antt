@@ -1,0 +1,25 @@
+-- `behind` meets its contract. Assumes nothing.
+use Rattle.script.specs.Steps.{rest}
+use borrow.Author.Needs.{needs}
+use Rattle.script.proofs.text.behind.Statement.{statement}
+use Rattle.script.proofs.text.behind.Tie as tie
+
+run-requires : tie.Need-run-requires
+run-requires c κs = search needs
+
+from-requires : tie.Need-from-requires
+from-requires c κs = search needs
+
+run-requires-2 : tie.Need-run-requires-2
+run-requires-2 c κs = search needs
+
+from-requires-2 : tie.Need-from-requires-2
+from-requires-2 c κs = search needs
+
+returns : tie.Need-returns
+unfolding rest
+returns c = cc
+
+pub behind-spec : {M : Type 1} → statement M
+behind-spec =
+    tie.close (tie.spec run-requires from-requires run-requires-2 from-requires-2 returns)

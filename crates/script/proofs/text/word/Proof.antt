@@ -1,0 +1,24 @@
+-- `word` meets its contract. Assumes nothing.
+use Rattle.script.specs.Steps.{firstWord}
+use borrow.Author.Needs.{needs}
+use Rattle.script.proofs.text.word.Statement.{statement}
+use Rattle.script.proofs.text.word.Tie as tie
+
+run-requires : tie.Need-run-requires
+run-requires c κs = search needs
+
+from-requires : tie.Need-from-requires
+from-requires c κs = search needs
+
+run-requires-2 : tie.Need-run-requires-2
+run-requires-2 c κs = search needs
+
+first-requires : tie.Need-first-requires
+first-requires c κs = search needs
+
+returns : tie.Need-returns
+unfolding firstWord
+returns c = cc
+
+pub word-spec : {M : Type 1} → statement M
+word-spec = tie.close (tie.spec run-requires from-requires run-requires-2 first-requires returns)

@@ -1,0 +1,9 @@
+pub mod Text
+pub mod Forms
+pub mod Lines
+pub mod Steps
+pub mod TextLaws
+pub mod FormsLaws
+pub mod WordsLaws
+pub mod ReadingLaws
+pub mod LinesLaws
