@@ -1,4 +1,5 @@
 # make run: will two boxes agree? make test: the gate. make bench: speed beside the reference implementation.
+# make tshark: frames beside what tshark shows of them.
 
 SHELL := /bin/bash -o pipefail
 CARGO := cargo --offline --quiet
@@ -6,7 +7,7 @@ REFERENCE := --release --manifest-path tests/reference/Cargo.toml
 COMPARE := --release --manifest-path tests/compare/Cargo.toml
 VERDICT := .ci/verdict
 
-.PHONY: run test bench
+.PHONY: run test bench tshark
 
 run:
 	rt check pair
@@ -27,3 +28,8 @@ bench:
 	rt check desk
 	$(CARGO) build $(REFERENCE) --bins
 	$(CARGO) run $(COMPARE) --bin bench
+
+# Not in the gate: it needs tshark, which tests/tshark/install.sh installs.
+tshark:
+	rt staticlib trial
+	$(CARGO) run $(COMPARE) --bin tshark

@@ -1,6 +1,7 @@
 //! The proved engine (crates/trial) beside the reference engine.
 
 pub mod engine;
+pub mod environment;
 pub mod script;
 pub mod words;
 

@@ -29,11 +29,7 @@ pub struct Script {
 impl Script {
     /// Adds a step, with the reference's answer and the card it left.
     pub fn push(&mut self, step: Step, answer: &Answer, card: Option<&Card>) {
-        let start = self.octets.len();
-        self.octets.extend([0, 0]);
         put_step(&mut self.octets, &step);
-        let length = (self.octets.len() - start - 2) as u16;
-        self.octets[start..start + 2].copy_from_slice(&length.to_be_bytes());
         self.starts.push(self.expected.len());
         self.expected.extend(&answer.output);
         self.expected.extend([answer.refusal, u8::from(answer.wish)]);
@@ -81,7 +77,16 @@ pub fn creation(settings: &OwnedSettings) -> Vec<u8> {
     octets
 }
 
-fn put_step(octets: &mut Vec<u8>, step: &Step) {
+/// Adds a step behind its length.
+pub fn put_step(octets: &mut Vec<u8>, step: &Step) {
+    let start = octets.len();
+    octets.extend([0, 0]);
+    put_content(octets, step);
+    let length = (octets.len() - start - 2) as u16;
+    octets[start..start + 2].copy_from_slice(&length.to_be_bytes());
+}
+
+fn put_content(octets: &mut Vec<u8>, step: &Step) {
     match step {
         Step::Event(Event::Create(settings)) => octets.extend(creation(settings)),
         Step::Event(Event::Frame(frame)) => {

@@ -3,24 +3,13 @@
 //!
 //! COMPARE_SEED and COMPARE_EVENTS give another seed and another number of events.
 
-use compare::{engine, script, words, Script, Step};
+use compare::{engine, environment, script, words, Script, Step};
 use reference::events::{assemble, Answer, Event, Generator, OwnedSetting, OwnedSettings};
 use reference::rng::XorShift;
 use reference::{Card, Reason};
 
 const SEED: u64 = 0x0dcb_0101;
 const EVENTS: u64 = 3_000_000;
-
-fn from_environment(name: &str, default: u64) -> u64 {
-    let Ok(text) = std::env::var(name) else {
-        return default;
-    };
-    let number = match text.strip_prefix("0x") {
-        Some(digits) => u64::from_str_radix(digits, 16),
-        None => text.parse(),
-    };
-    number.unwrap_or_else(|_| panic!("{name}={text} is no number"))
-}
 
 /// What has occurred.
 #[derive(Debug, Default)]
@@ -138,8 +127,8 @@ fn check(script: &Script, out: &mut [u8]) {
 
 #[test]
 fn the_engines_agree() {
-    let seed = from_environment("COMPARE_SEED", SEED);
-    let events = from_environment("COMPARE_EVENTS", EVENTS);
+    let seed = environment::number("COMPARE_SEED", SEED);
+    let events = environment::number("COMPARE_EVENTS", EVENTS);
     println!("seed {seed:#x}, {events} events");
     let mut source = Source::new(seed);
     let mut coverage = Coverage::default();
