@@ -28,34 +28,42 @@ fn written(before: Log, after: Log) -> usize {
     new
 }
 
+// The notices that an event wrote, if any.
+fn new_notices(out: &mut [u8], at: usize, before: Log, after: Log) -> usize {
+    let new = written(before, after);
+    if new == 0 {
+        return at;
+    }
+    let from = std::num::wrapping_sub_usize(after.count, new);
+    report::states::notice_lines(out, at, b"", after, from)
+}
+
 // The answer, and the notices that the event wrote.
-fn answered(out: &mut [u8], at: usize, before: Log, h: Handled) -> Step {
-    let card = h.card;
-    let after = card.log;
-    let answer = h.answer;
-    match answer {
-        Answer::Refused(r) => {
-            return Step {
-                card: card,
-                at: report::answers::refused(out, at, r),
-            };
-        }
+pub fn answered(out: &mut [u8], at: usize, before: Log, a: Answer, after: Log) -> usize {
+    match a {
+        Answer::Refused(r) => report::answers::refused(out, at, r),
         Answer::Done(send) => {
             let behind = report::answers::done(out, at, send);
-            let new = written(before, after);
-            let from = std::num::wrapping_sub_usize(after.count, new);
-            return Step {
-                card: card,
-                at: report::states::notice_lines(out, behind, b"", after, from),
-            };
+            new_notices(out, behind, before, after)
         }
     }
 }
 
-fn handle(out: &mut [u8], at: usize, c: Card, l: Line) -> Step {
-    let log = c.log;
-    let o = l.octets;
-    answered(out, at, log, card::handle(c, octets::first(&o, l.n)))
+// The step of an event that found the log as it was before.
+fn stepped(out: &mut [u8], at: usize, before: Log, h: Handled) -> Step {
+    let card = h.card;
+    let answer = h.answer;
+    Step {
+        card: card,
+        at: answered(out, at, before, answer, card.log),
+    }
+}
+
+// Handles the frame on a line.
+pub fn handle(c: Card, line: &[u8]) -> Handled {
+    let n = script::frame_length(line);
+    let o = script::frame_octets(line);
+    card::handle(c, octets::first(&o, n))
 }
 
 fn port_flag(f: script::Flag) -> Flag {
@@ -68,24 +76,21 @@ fn port_flag(f: script::Flag) -> Flag {
 }
 
 fn set_flag(out: &mut [u8], at: usize, c: Card, f: script::Flag, on: bool) -> Step {
-    let log = c.log;
-    answered(out, at, log, card::set_flag(c, port_flag(f), on))
+    stepped(out, at, c.log, card::set_flag(c, port_flag(f), on))
 }
 
 fn change_setting(out: &mut [u8], at: usize, c: Card, number: u8, w: Switches, l: Line) -> Step {
-    let log = c.log;
     let o = l.octets;
-    answered(
+    stepped(
         out,
         at,
-        log,
+        c.log,
         card::change_setting(c, number, w, octets::first(&o, l.n)),
     )
 }
 
 fn peer_gone(out: &mut [u8], at: usize, c: Card) -> Step {
-    let log = c.log;
-    answered(out, at, log, card::peer_gone(c))
+    stepped(out, at, c.log, card::peer_gone(c))
 }
 
 // Writes the frame into an output of `room` octets, or of all where there are fewer.
@@ -134,7 +139,7 @@ pub fn event(out: &mut [u8], at: usize, c: Card, number: u64, line: &[u8]) -> St
     let l = script::parse_event(line);
     let kind = l.kind;
     match kind {
-        Kind::Frame => handle(out, at, c, l),
+        Kind::Frame => stepped(out, at, c.log, handle(c, line)),
         Kind::Gone => peer_gone(out, at, c),
         Kind::Flag(f, on) => set_flag(out, at, c, f, on),
         Kind::Setting {

@@ -48,11 +48,39 @@ fn held(buffer: &[u8], next: usize, end: usize) -> &[u8]
     octets::from(octets::first(buffer, end), next)
 }
 
+// Whether a line feed stands among the 16 octets from `from` on. The loop has one way through, so that it is compiled to a
+// few steps.
+fn has_feed(s: &[u8], from: usize) -> bool
+    requires { ⌜ from + 16 ≤ length (now s) ⌝ }
+{
+    let mut any = false;
+    let mut i: usize = 0;
+    while i < 16 {
+        any = any | (s[from + i] == LINE_FEED);
+        i += 1;
+    }
+    any
+}
+
+// How many octets in front are passed by, 16 at a time, without a line feed among them.
+fn passed(s: &[u8]) -> usize
+    ensures { λ r. ⌜ r ≤ length (now (s .entry)) ⌝ }
+{
+    let mut i: usize = 0;
+    while 16 <= s.len() - i {
+        if has_feed(s, i) {
+            return i;
+        }
+        i += 16;
+    }
+    i
+}
+
 // How many octets stand before the first line feed.
 fn line_length(s: &[u8]) -> usize
     ensures { λ r. ⌜ r ≤ length (now (s .entry)) ⌝ }
 {
-    let mut i: usize = 0;
+    let mut i = passed(s);
     while i < s.len() {
         if s[i] == LINE_FEED {
             return i;

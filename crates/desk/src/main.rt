@@ -44,46 +44,32 @@ fn next(input: &mut [u8], output: &[u8], l: Lines, at: usize) -> Place {
     }
 }
 
-// The card, the line that was found last, and where the next answer goes.
-struct Desk {
-    card: Card,
-    lines: Lines,
-    at: usize,
-}
-
-// One event; where the input is over, none.
-fn turn(input: &mut [u8], output: &mut [u8], d: Desk) -> Desk {
-    let old = d.lines;
-    let card = d.card;
-    let p = next(input, output, old, d.at);
-    let lines = p.lines;
-    if !lines.found {
-        return Desk {
-            card: card,
-            lines: lines,
-            at: p.at,
-        };
-    }
-    let line = console::line(input, lines);
-    let step = console::events::event(output, p.at, card, lines.number, line);
-    let after = step.card;
-    Desk {
-        card: after,
-        lines: lines,
-        at: step.at,
-    }
-}
-
-// The events, to the end of the input. A proved loop ends: it counts its turns down, from a number that no run uses up.
-fn run(input: &mut [u8], output: &mut [u8], start: Desk) {
-    let mut d = start;
-    let mut more = true;
+// The events, to the end of the input. A frame, as most lines are, goes its own way, so that its card is not copied into the
+// step of an event and out of it. A proved loop ends: it counts its turns down, from a number that no run uses up.
+fn run(input: &mut [u8], output: &mut [u8], start: Card, first: Lines) {
+    let mut card = start;
+    let mut lines = first;
+    let mut at = 0;
     let mut turns = u64::MAX;
-    while 0 < turns && more {
-        d = turn(input, output, d);
-        let lines = d.lines;
-        more = lines.found;
+    while 0 < turns {
         turns -= 1;
+        let p = next(input, output, lines, at);
+        lines = p.lines;
+        if !lines.found {
+            return;
+        }
+        let line = console::line(input, lines);
+        if script::is_frame(line) {
+            let before = card.log;
+            let h = console::events::handle(card, line);
+            let answer = h.answer;
+            card = h.card;
+            at = console::events::answered(output, p.at, before, answer, card.log);
+            continue;
+        }
+        let step = console::events::event(output, p.at, card, lines.number, line);
+        card = step.card;
+        at = step.at;
     }
 }
 
@@ -108,11 +94,5 @@ fn main() {
         return;
     }
     let made = console::settings::create(s);
-    let card = made.card;
-    let start = Desk {
-        card: card,
-        lines: lines,
-        at: 0,
-    };
-    run(&mut input, &mut output, start);
+    run(&mut input, &mut output, made.card, lines);
 }

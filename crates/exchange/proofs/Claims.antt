@@ -10,6 +10,7 @@ use Rattle.parameters.specs.declared.Feature.{Feature}
 use Rattle.parameters.specs.Parameters.{content}
 use Rattle.feature.specs.declared.Outcome.{Outcome}
 use Rattle.feature.specs.Outcome.{lower, outcome}
+use Rattle.feature.specs.Outcome as rules
 use Rattle.feature.specs.State.{flags, fresh}
 use Rattle.port.specs.declared.Port.{Port}
 use Rattle.port.specs.Parts.{featureOf}
@@ -54,14 +55,15 @@ module _ (own peer p : Port) (q : Core) (e : view p ≡ q) where
   abbrev p-outcome : Feature → Type 0
   p-outcome f = featureOf p f .outcome ≡ settledOutcome f (sideOf own f) (sideOf peer f)
 
-  pub agreed : (k : ℕ) (took taken : Bool) → After5 (settings own) (settings peer) q k took taken → Idle (settings own) q → Agreed own peer p
-  agreed k took taken h i =
+  pub agreed : settings p ≡ settings own → (k : ℕ) (took taken : Bool) → After5 (settings own) (settings peer) q k took taken → Idle (settings own) q → Agreed own peer p
+  agreed s k took taken h i =
       let o : (f : Feature) → p-outcome f = λ f. ap (λ (x : Core). x .feat f .outcome) e ∙ settled-as (settings own) (settings peer) q (h .full) i f _ refl in
       record {
         acknowledged = ap (λ (x : Core). x .rcvd) e ∙ h .done .rcvd ∙ sym (ap (λ (x : Core). x .seq) e);
         version = ap (λ (x : Core). x .oper) e ∙ h .low;
         versions = λ f a b. ap (λ (x : Outcome). x .oper) (o f) ∙ settled-version f (sideOf own f) (sideOf peer f) a b;
         outcome = o;
+        configuration = λ f i. rules.configuration (s i .of f .setting) (o f i);
       }
 
   pub truthful : Honest (settings peer) q → Truthful peer p

@@ -20,8 +20,10 @@ demand3 c h =
       settles = λ rs p n.
           let k = follows-all s t (rounds rs) c (begin s t) p (like-begun c h) in
           let z = after-five s t fit-s fit-t rs n in
-          let i = run-idle s t (rounds rs) in
-          (agreed (c .l .port) (c .r .port) _ _ (k .view-l) _ _ _ (z .0) (i .0), agreed (c .r .port) (c .l .port) _ _ (k .view-r) _ _ _ (z .1) (i .1));
+          let i = run-idle s t (rounds rs) in (
+            agreed (c .l .port) (c .r .port) _ _ (k .view-l) (k .runs-l .set) _ _ _ (z .0) (i .0),
+            agreed (c .r .port) (c .l .port) _ _ (k .view-r) (k .runs-r .set) _ _ _ (z .1) (i .1),
+          );
       truthful = λ rs p.
           let k = follows-all s t (lossyRounds rs) c (begin s t) p (like-begun c h) in
           let z = run-truthful s t fit-s fit-t (lossyRounds rs) in

@@ -20,7 +20,7 @@ use Rattle.exchange.proofs.Stages.{Fit, advertises, Bound, Version, bou
 
 fresh-is : (x : Side) → x .setting .advertise ≡ true →
     fresh (x .max) (x .setting)
-    ≡ record { max = x .max; setting = x .setting; outcome = withoutPeer (x .setting) NoPeerYet (x .max) false; syncd = false; sequence = 1 }
+    ≡ record { max = x .max; setting = x .setting; outcome = withoutPeer NoPeerYet (x .max) false; syncd = false; sequence = 1 }
 unfolding freshAt
 fresh-is x e = rw e
 

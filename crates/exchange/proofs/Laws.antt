@@ -15,11 +15,12 @@ use Rattle.feature.specs.declared.Setting.{Setting}
 use Rattle.feature.specs.declared.Outcome.{Outcome}
 use Rattle.feature.specs.declared.State.{State}
 use Rattle.feature.specs.Outcome.{Received, operOf, maxOf, parametersOf, lower, heldPeer, withoutPeer, settled, outcome}
+use Rattle.feature.specs.Rules.{settled-oper}
 use Rattle.feature.specs.State.{acknowledged}
 use Rattle.port.specs.Sound.{SoundParameters}
 use Rattle.exchange.specs.Rounds.{Side, ruled}
 use Rattle.port.proofs.Tests.{or-cases}
-use Rattle.exchange.proofs.Outcomes.{settled-oper, settled-error, alone-absent, alone-met}
+use Rattle.exchange.proofs.Outcomes.{settled-error, alone-absent, alone-met}
 
 -- one readable sub-TLV: Oper becomes the lower of the two Max, whatever was received
 pub lower-of-two : (f : Feature) (max : ℕ) (s : Setting) (oper : ℕ) (r : Received) →
@@ -30,8 +31,8 @@ lower-of-two f max s oper r one long within =
     (by (operOf (r .value) is lower max (maxOf (r .value))) (valid f (parametersOf (r .value))))
   where
     by : (a b : Bool) →
-        (if not a then withoutPeer s Waiting (lower max (maxOf (r .value))) false
-        else if not b then withoutPeer s Bad (lower max (maxOf (r .value))) true
+        (if not a then withoutPeer Waiting (lower max (maxOf (r .value))) false
+        else if not b then withoutPeer Bad (lower max (maxOf (r .value))) true
         else settled f s (lower max (maxOf (r .value))) (heldPeer f (r .value))) .oper
         ≡ lower max (maxOf (r .value))
     by false b = refl

@@ -20,7 +20,7 @@ use Rattle.port.specs.Sound.{SoundParameters}
 use Rattle.exchange.specs.Rounds.{Side, receivedAlone, ruled}
 use Rattle.exchange.proofs.Core.{written, changed}
 use Rattle.port.proofs.Tests.{is-same, beq-same}
-use Rattle.port.proofs.Rules.{judged, settled-by}
+use Rattle.feature.specs.Rules.{judged, settled-by, settled-oper, settled-peer}
 
 -- the version that the two settings lead to, if the peer advertises
 unfoldable pub version : Bool → Side → Side → ℕ
@@ -34,33 +34,13 @@ version-le true own peer = min-le-left _ _
 
 -- ---- rules 6 to 9, over their three tests
 
-judged-oper : (a b c : Bool) (s : Setting) (oper : ℕ) (p : Peer) → judged a b c s oper p .oper ≡ oper
-unfolding judged
-judged-oper false b c s oper p = refl
-judged-oper true false c s oper p = refl
-judged-oper true true true s oper p = refl
-judged-oper true true false s oper p = refl
-
 -- the Error does not depend on the peer's error flag
-judged-error : (a b c : Bool) (s : Setting) (oper : ℕ) (p q : Peer) → judged a b c s oper p .error ≡ judged a b c s oper q .error
+judged-error : (a b c willing : Bool) (oper : ℕ) (p q : Peer) → judged a b c willing oper p .error ≡ judged a b c willing oper q .error
 unfolding judged
-judged-error false b c s oper p q = refl
-judged-error true false c s oper p q = refl
-judged-error true true true s oper p q = refl
-judged-error true true false s oper p q = refl
-
-judged-peer : (a b c : Bool) (s : Setting) (oper : ℕ) (p : Peer) → judged a b c s oper p .peer ≡ p
-unfolding judged
-judged-peer false b c s oper p = refl
-judged-peer true false c s oper p = refl
-judged-peer true true true s oper p = refl
-judged-peer true true false s oper p = refl
-
-pub settled-oper : (f : Feature) (s : Setting) (oper : ℕ) (p : Peer) → settled f s oper p .oper ≡ oper
-settled-oper f s oper p = rw settled-by (judged-oper _ _ _ s oper p)
-
-pub settled-peer : (f : Feature) (s : Setting) (oper : ℕ) (p : Peer) → settled f s oper p .peer ≡ p
-settled-peer f s oper p = rw settled-by (judged-peer _ _ _ s oper p)
+judged-error false b c willing oper p q = refl
+judged-error true false c willing oper p q = refl
+judged-error true true true willing oper p q = refl
+judged-error true true false willing oper p q = refl
 
 -- what is held of a peer with an error flag
 abbrev pub heldOf : Side → Bool → Peer
@@ -68,7 +48,7 @@ heldOf x error = record { held = true; enable = x .setting .enable; willing = x 
 
 pub settled-error : (f : Feature) (s : Setting) (oper : ℕ) (peer : Side) (e d : Bool) →
     settled f s oper (heldOf peer e) .error ≡ settled f s oper (heldOf peer d) .error
-settled-error f s oper peer e d = simp settled-by (judged-error _ _ _ s oper _ _)
+settled-error f s oper peer e d = simp settled-by (judged-error _ _ _ (s .willing) oper _ _)
 
 -- ---- flags are read as they are written
 
@@ -111,9 +91,9 @@ sent1 oper peer error =
 -- rules 3, 4 and 5 over their tests: Oper is above Max, Oper is the lower of the two Max, the parameters are valid
 unfoldable ranked : Bool → Bool → Bool → Feature → Side → ℕ → ℕ → Peer → Outcome
 ranked above same good f own old low p =
-    if above then withoutPeer (own .setting) Bad old true
-    else if not same then withoutPeer (own .setting) Waiting low false
-    else if not good then withoutPeer (own .setting) Bad low true
+    if above then withoutPeer Bad old true
+    else if not same then withoutPeer Waiting low false
+    else if not good then withoutPeer Bad low true
     else settled f (own .setting) low p
 
 outcome-by : (f : Feature) (own peer : Side) (old oper : ℕ) (error : Bool) → SoundParameters f (peer .setting .desired) →
@@ -165,7 +145,7 @@ in-step f own peer old oper error h e =
 
 -- the rules of two settings alone, where the peer advertises or not
 pub alone-absent : (f : Feature) (own peer : Side) (error : Bool) → peer .setting .advertise ≡ false →
-    ruled f own peer error ≡ withoutPeer (own .setting) Absent (own .max) false
+    ruled f own peer error ≡ withoutPeer Absent (own .max) false
 unfolding ruled receivedAlone outcome
 alone-absent f own peer error e = rw e
 

@@ -8,6 +8,7 @@ use lib.ListN.{length}
 use Rattle.parameters.specs.declared.Feature.{Feature}
 use Rattle.feature.specs.declared.Peer.{Peer}
 use Rattle.feature.specs.Outcome.{lower}
+use Rattle.feature.specs.Outcome as rules
 use Rattle.port.specs.declared.Port.{Port}
 use Rattle.port.specs.Parts.{featureOf, running}
 use Rattle.port.specs.PortEvents.{freshPort}
@@ -30,13 +31,16 @@ pub record Begun (c : Ends) : Type 0 where
   pub no-r : c .from-r ≡ none
 
 -- First half, at an end whose port is now p, where it started as `own` and its peer as `peer`: "Acknowledged means RcvdAckNo =
--- SeqNo; the version run at is Oper". The outcome has the version, mode, error and configuration of each feature.
+-- SeqNo; the version run at is Oper". The outcome has the version, mode and error of each feature, "the configuration compared is
+-- OperCfg".
 pub record Agreed (own peer p : Port) : Type 0 where
   pub acknowledged : p .control .rcvd ≡ p .control .seq
   pub version : p .control .oper ≡ lower (own .control .max) (peer .control .max)
   pub versions : (f : Feature) → featureOf own f .setting .advertise ≡ true → featureOf peer f .setting .advertise ≡ true
       → featureOf p f .outcome .oper ≡ lower (featureOf own f .max) (featureOf peer f .max)
   pub outcome : (f : Feature) → featureOf p f .outcome ≡ settledOutcome f (sideOf own f) (sideOf peer f)
+  pub configuration : (f : Feature) → rules.configuration (featureOf p f .setting) (featureOf p f .outcome)
+      ≡ rules.configuration (featureOf own f .setting) (settledOutcome f (sideOf own f) (sideOf peer f))
 
 -- Second half: what an end holds of its peer is none or exactly the peer's own, of a feature that the peer advertises
 pub record Truthful (peer p : Port) : Type 0 where

@@ -1,5 +1,7 @@
 pub mod Reasons
 pub mod Outcome
 pub mod OutcomeLaws
+pub mod Rules
 pub mod State
 pub mod StateLaws
+pub mod TurnLaws

@@ -50,43 +50,41 @@ abbrev pub heldPeer : Feature → List ℕ → Peer
 heldPeer f v = record { held = true; enable = enableOf v; willing = willingOf v; error = errorOf v; parameters = stored (plain f (parametersOf v)) }
 
 -- "In 1 to 5 peer is none, mode false, OperCfg = DesiredCfg."
-abbrev pub withoutPeer : Setting → Reason → ℕ → Bool → Outcome
-withoutPeer s why oper error =
-    record { reason = why; oper = oper; error = error; mode = false; peer = noPeer; configuration = s .desired }
+abbrev pub withoutPeer : Reason → ℕ → Bool → Outcome
+withoutPeer why oper error = record { reason = why; oper = oper; error = error; mode = false; peer = noPeer; adopts = false }
 
 -- what rules 6 to 9 share: the version, and the peer that is held
-abbrev pub withPeer : Reason → ℕ → Bool → Bool → Peer → Parameters → Outcome
-withPeer why oper error mode p configuration =
-    record { reason = why; oper = oper; error = error; mode = mode; peer = p; configuration = configuration }
+abbrev pub withPeer : Reason → ℕ → Bool → Bool → Peer → Bool → Outcome
+withPeer why oper error mode p adopts = record { reason = why; oper = oper; error = error; mode = mode; peer = p; adopts = adopts }
 
--- the unwilling end's configuration, where willing differs
-abbrev pub unwilling : Setting → Peer → Parameters
-unwilling s p = if s .willing then p .parameters else s .desired
+-- OperCfg, of a setting and what the rules decided: the peer's configuration where it is adopted, and else DesiredCfg
+abbrev pub configuration : Setting → Outcome → Parameters
+configuration s o = if o .adopts then o .peer .parameters else s .desired
 
 -- Rules 6 to 9, at a version and with a peer that is held. "In 7 and 8 the reason is "agreed" and the mode is true exactly if the
 -- peer's error flag is clear."
 unfoldable pub settled : Feature → Setting → ℕ → Peer → Outcome
 settled f s oper p =
     -- 6. "Either end not enabled: "disabled", mode and Error false, own configuration."
-    if not (s .enable && p .enable) then withPeer Disabled oper false false p (s .desired)
-    -- 7. "Willing differs: the unwilling end's configuration, Error false."
-    else if not (Bool·beq (s .willing) (p .willing)) then withPeer Agreed oper false (not (p .error)) p (unwilling s p)
+    if not (s .enable && p .enable) then withPeer Disabled oper false false p false
+    -- 7. "Willing differs: the unwilling end's configuration, Error false." A willing end adopts the peer's.
+    else if not (Bool·beq (s .willing) (p .willing)) then withPeer Agreed oper false (not (p .error)) p (s .willing)
     -- 8. "Willing equal and compatible: own, Error false."
-    else if compatible f (content (s .desired)) (content (p .parameters)) then withPeer Agreed oper false (not (p .error)) p (s .desired)
+    else if compatible f (content (s .desired)) (content (p .parameters)) then withPeer Agreed oper false (not (p .error)) p false
     -- 9. "Else "not compatible": own, Error true, mode false."
-    else withPeer NotCompatible oper true false p (s .desired)
+    else withPeer NotCompatible oper true false p false
 
 -- "First that applies", of a feature that runs at `oper` and has `max` and a setting
 unfoldable pub outcome : Feature → ℕ → Setting → ℕ → Received → Outcome
 outcome f max s oper r =
     -- 1. "Absent: reason "absent", Oper = Max, Error false."
-    if r .count is 0 then withoutPeer s Absent max false
+    if r .count is 0 then withoutPeer Absent max false
     -- 2. "Twice or more: "duplicate", Error true." "In 2 and 3 Oper stays."
-    else if 1 below r .count then withoutPeer s Duplicate oper true
+    else if 1 below r .count then withoutPeer Duplicate oper true
     -- 3. "Length under 4, or Oper above Max: "bad", Error true."
-    else if length (r .value) below 4 || maxOf (r .value) below operOf (r .value) then withoutPeer s Bad oper true
+    else if length (r .value) below 4 || maxOf (r .value) below operOf (r .value) then withoutPeer Bad oper true
     -- 4. "Oper becomes the lower of the two Max. Received Oper differs: "waiting", Error false. The parameters are not read."
-    else if not (operOf (r .value) is lower max (maxOf (r .value))) then withoutPeer s Waiting (lower max (maxOf (r .value))) false
+    else if not (operOf (r .value) is lower max (maxOf (r .value))) then withoutPeer Waiting (lower max (maxOf (r .value))) false
     -- 5. "Wrong length or invalid parameters: "bad", Error true."
-    else if not (valid f (parametersOf (r .value))) then withoutPeer s Bad (lower max (maxOf (r .value))) true
+    else if not (valid f (parametersOf (r .value))) then withoutPeer Bad (lower max (maxOf (r .value))) true
     else settled f s (lower max (maxOf (r .value))) (heldPeer f (r .value))

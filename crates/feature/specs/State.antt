@@ -26,12 +26,12 @@ withOutcome x o = record { max = x .max; setting = x .setting; outcome = o; sync
 -- false, FeatureSeqNo 1. Not advertised: reason "not advertised", mode = enable, Syncd true, FeatureSeqNo 1."
 unfoldable pub freshAt : ℕ → ℕ → Setting → State
 freshAt sequence max s =
-    if s .advertise then record { max = max; setting = s; outcome = withoutPeer s NoPeerYet max false; syncd = false; sequence = sequence }
+    if s .advertise then record { max = max; setting = s; outcome = withoutPeer NoPeerYet max false; syncd = false; sequence = sequence }
     else
     record {
       max = max;
       setting = s;
-      outcome = record { reason = NotAdvertised; oper = max; error = false; mode = s .enable; peer = noPeer; configuration = s .desired };
+      outcome = record { reason = NotAdvertised; oper = max; error = false; mode = s .enable; peer = noPeer; adopts = false };
       syncd = true;
       sequence = sequence;
     }
@@ -41,7 +41,7 @@ fresh max s = freshAt 1 max s
 
 -- "A port that isn't running holds that state with every mode false."
 abbrev pub modeOff : Outcome → Outcome
-modeOff o = record { reason = o .reason; oper = o .oper; error = o .error; mode = false; peer = o .peer; configuration = o .configuration }
+modeOff o = record { reason = o .reason; oper = o .oper; error = o .error; mode = false; peer = o .peer; adopts = o .adopts }
 
 abbrev pub stopped : State → State
 stopped x = withOutcome x (modeOff (x .outcome))
@@ -70,7 +70,7 @@ subTlv f x = if x .setting .advertise then headed (featureNumber f) (value x) el
 -- Step 1: "each advertised feature gets reason "control twice", Error true, mode false, peer none, OperCfg = DesiredCfg"
 unfoldable pub controlTwice : State → State
 controlTwice x =
-    if x .setting .advertise then withOutcome x (withoutPeer (x .setting) ControlTwice (x .outcome .oper) true)
+    if x .setting .advertise then withOutcome x (withoutPeer ControlTwice (x .outcome .oper) true)
     else x
 
 -- Step 3: "A feature whose FeatureSeqNo equals both RcvdAckNo and SeqNo becomes Syncd."
@@ -112,9 +112,9 @@ sameSetting s t =
 unfoldable pub resettled : Feature → Setting → Outcome → Outcome
 resettled f s o =
     if not (s .advertise) then
-    record { reason = o .reason; oper = o .oper; error = o .error; mode = s .enable; peer = o .peer; configuration = s .desired }
+    record { reason = o .reason; oper = o .oper; error = o .error; mode = s .enable; peer = o .peer; adopts = false }
     else if o .peer .held then settled f s (o .oper) (o .peer)
-    else record { reason = o .reason; oper = o .oper; error = o .error; mode = o .mode; peer = o .peer; configuration = s .desired }
+    else record { reason = o .reason; oper = o .oper; error = o .error; mode = o .mode; peer = o .peer; adopts = false }
 
 -- "If Advertise goes false or true, the feature becomes as in the fresh state, except that FeatureSeqNo = SeqNo + 1."
 unfoldable pub reset : Feature → ℕ → Setting → State → State

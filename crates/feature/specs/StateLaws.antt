@@ -1,77 +1,47 @@
 -- A feature's state, a law for each way out of its functions: premises in the form in which a test leaves them. Assumes nothing.
 use Prim.Native.Nat.{ℕ, _+_, _*_, _/_, _%_, _<_, _≤_}
-use mathlib.Core.Bool.{Bool, true, false, not, _&&_, _||_, Bool·beq, or-true, or-false, and-false, false≢true}
+use mathlib.Core.Bool.{Bool, true, false, not, _&&_, Bool·beq, and-false, false≢true}
 use mathlib.Core.Path.{_≡_, _∙_, refl, sym, ap, ap₂}
 use mathlib.Core.List.{List, [], _∷_}
-use lib.ListN.{length}
-use Rattle.parameters.specs.WritingLaws.{Size}
+use lib.ListN.{length, take}
+use Rattle.parameters.specs.WritingLaws.{Size, content-of}
 use lib.Seq.{sets}
 use Rattle.octets.specs.Octets.{same}
 use Rattle.octets.specs.Laws.{same-is, same-refl, sets-append}
-use Rattle.parameters.specs.Parameters.{featureNumber, content, sameParameters}
+use Rattle.parameters.specs.Parameters.{featureNumber, content, noParameters, compatible, sameParameters}
 use native.Mathlib.Omega.{arith}
 use borrow.Author.Tests.{not-true, not-false, lt-ltb, le-ltb, eq-eqb, ne-eqb}
 use Rattle.parameters.specs.declared.Feature.{Feature}
 use Rattle.parameters.specs.declared.Feature.the-variants.{Groups, Flow, Applications}
 use Rattle.parameters.specs.declared.Parameters.{Parameters}
-use Rattle.feature.specs.declared.Reason.the-variants.{NoPeerYet, NotAdvertised, ControlTwice}
+use Rattle.feature.specs.declared.Reason.the-variants.{NoPeerYet, NotAdvertised}
 use Rattle.feature.specs.declared.Setting.{Setting}
 use Rattle.feature.specs.declared.Peer.{Peer}
+use Rattle.feature.specs.declared.Decision.{Decision}
+use Rattle.feature.specs.declared.Flags.{Flags}
+use Rattle.feature.specs.declared.Switches.{Switches}
 use Rattle.feature.specs.declared.Outcome.{Outcome}
 use Rattle.feature.specs.declared.State.{State}
-use Rattle.feature.specs.Outcome.{Received, noPeer, withoutPeer, settled, outcome}
-use Rattle.feature.specs.State.{next, withOutcome, freshAt, controlTwice, acknowledged, received, flags, value, headed, subTlv, changed, marked, sameSetting, resettled, reset}
+use Rattle.feature.specs.Outcome.{withoutPeer, settled}
+use Rattle.feature.specs.OutcomeLaws.{decided, outcomeOf, peerOf, settled-lent, settledOn, settles, switchesOf, withMode}
+use Rattle.feature.specs.Rules.{settled-peer}
+use Rattle.feature.specs.State.{next, freshAt, flags, value, headed, subTlv, changed, marked, sameSetting, resettled, reset}
 
-module _ (sequence max : ℕ) (s : Setting) where
-  pub fresh-advertised : {o : Outcome} → s .advertise ≡ true → o ≡ withoutPeer s NoPeerYet max false
+module _ (sequence max : ℕ) (s : Setting) {d : Decision} {p : Parameters} {o : Outcome} (ep : p ≡ noParameters) where
+  pub fresh-advertised : s .advertise ≡ true → d ≡ decided (withoutPeer NoPeerYet max false) → o ≡ outcomeOf d p
       → record { max = max; setting = s; outcome = o; syncd = false; sequence = sequence } ≡ freshAt sequence max s
   unfolding freshAt
-  fresh-advertised t e = simp (e, t)
+  fresh-advertised t ed eo = simp (eo, ed, ep, t)
 
-  pub fresh-withheld : {p : Peer} → s .advertise ≡ false → p ≡ noPeer
-      → record {
-        max = max;
-        setting = s;
-        outcome = record { reason = NotAdvertised; oper = max; error = false; mode = s .enable; peer = p; configuration = s .desired };
-        syncd = true;
-        sequence = sequence;
-      } ≡ freshAt sequence max s
+  pub fresh-withheld : s .advertise ≡ false → d ≡ decided (withoutPeer NotAdvertised max false) → o ≡ outcomeOf (withMode d (s .enable)) p
+      → record { max = max; setting = s; outcome = o; syncd = true; sequence = sequence } ≡ freshAt sequence max s
   unfolding freshAt
-  fresh-withheld t e = simp (e, t)
+  fresh-withheld t ed eo = simp (eo, ed, ep, t)
 
-module _ (x : State) where
-  pub twice-withheld : not (x .setting .advertise) ≡ true → x ≡ controlTwice x
-  unfolding controlTwice
-  twice-withheld t = simp (not-true (x .setting .advertise) t)
-
-  pub twice-advertised : {o : Outcome} → not (x .setting .advertise) ≡ false → o ≡ withoutPeer (x .setting) ControlTwice (x .outcome .oper) true
-      → withOutcome x o ≡ controlTwice x
-  unfolding controlTwice
-  twice-advertised t e = simp (e, not-false (x .setting .advertise) t)
-
-  module _ (rcvd seq : ℕ) where
-    pub acknowledged-stale : (x .sequence ≡ rcvd → ⊥) → x ≡ acknowledged rcvd seq x
-    unfolding acknowledged
-    acknowledged-stale n = rw (ne-eqb (x .sequence) rcvd n, or-false (x .syncd)) refl
-
-    pub acknowledged-early : x .sequence ≡ rcvd → (x .sequence ≡ seq → ⊥) → x ≡ acknowledged rcvd seq x
-    unfolding acknowledged
-    acknowledged-early e n = rw (eq-eqb (x .sequence) rcvd e, ne-eqb (x .sequence) seq n, or-false (x .syncd)) refl
-
-    pub acknowledged-now : x .sequence ≡ rcvd → x .sequence ≡ seq
-        → record { max = x .max; setting = x .setting; outcome = x .outcome; syncd = true; sequence = x .sequence } ≡ acknowledged rcvd seq x
-    unfolding acknowledged
-    acknowledged-now e h = rw (eq-eqb (x .sequence) rcvd e, eq-eqb (x .sequence) seq h, or-true (x .syncd)) refl
-
-  module _ (f : Feature) (r : Received) where
-    pub received-withheld : not (x .setting .advertise) ≡ true → x ≡ received f r x
-    unfolding received
-    received-withheld t = simp (not-true (x .setting .advertise) t)
-
-    pub received-advertised : {o : Outcome} → not (x .setting .advertise) ≡ false → o ≡ outcome f (x .max) (x .setting) (x .outcome .oper) r
-        → withOutcome x o ≡ received f r x
-    unfolding received
-    received-advertised t e = simp (e, not-false (x .setting .advertise) t)
+-- the octets of two configurations as the code lends them
+pub same-content-is : (a b : Parameters) {m n : ℕ} {x y : List ℕ} {r : Bool} → m ≡ a .length → x ≡ take m (a .octets) → n ≡ b .length → y ≡ take n (b .octets)
+    → r ≡ same x y → r ≡ same (content a) (content b)
+same-content-is a b em ex en ey e = e ∙ ap₂ same (content-of a em ex) (content-of b en ey)
 
 -- ---- whether the written sub-TLV changed
 
@@ -180,9 +150,25 @@ module _ (s t : Setting) where
       settings-parameters c e =
           simp (e, not-false (Bool·beq (s .advertise) (t .advertise)) a, not-false (Bool·beq (s .enable) (t .enable)) b, not-false (Bool·beq (s .willing) (t .willing)) c)
 
+-- rules 6 to 9 for a peer that is held, whose parameters stay
+pub settled-again : (f : Feature) (s : Setting) (oper : ℕ) (p : Peer) → p .held ≡ true → {x : Switches} → x ≡ switchesOf s → {m n : ℕ} {own t : List ℕ}
+    → m ≡ s .desired .length → own ≡ take m (s .desired .octets) → n ≡ p .parameters .length → t ≡ take n (p .parameters .octets) → {d : Decision}
+    → d ≡ settledOn f x own oper (record { enable = p .enable; willing = p .willing; error = p .error }) t
+    → {r : Outcome} → r ≡ outcomeOf d (p .parameters) → r ≡ settled f s oper p
+settled-again f s oper p h {x} ex {m} {n} {own} {t} em eo en et {d} ed er =
+    let w : Flags = record { enable = p .enable; willing = p .willing; error = p .error } in
+    let q : Peer = peerOf w (p .parameters) in
+    let k : q ≡ p = λ i. record { held = sym h i; enable = p .enable; willing = p .willing; error = p .error; parameters = p .parameters } in
+    let e : d ≡ decided (settled f s oper q) =
+    settled-lent f s oper w t ex em eo ed ∙ settles f s oper w t (p .parameters) (ap (compatible f (content (s .desired))) (sym (content-of (p .parameters) en et))) in
+    let m : settled f s oper q .peer ≡ q = settled-peer f s oper q in
+    er ∙ ap (λ (d : Decision). outcomeOf d (p .parameters)) e
+    ∙ (λ i. outcomeOf (decided (settled f s oper q)) (sym m i .parameters))
+    ∙ ap (settled f s oper) k
+
 module _ (f : Feature) (s : Setting) (o : Outcome) where
   pub resettled-withheld : not (s .advertise) ≡ true
-      → record { reason = o .reason; oper = o .oper; error = o .error; mode = s .enable; peer = o .peer; configuration = s .desired } ≡ resettled f s o
+      → record { reason = o .reason; oper = o .oper; error = o .error; mode = s .enable; peer = o .peer; adopts = false } ≡ resettled f s o
   unfolding resettled
   resettled-withheld t = simp t
 
@@ -192,7 +178,7 @@ module _ (f : Feature) (s : Setting) (o : Outcome) where
     resettled-held h e = simp (e, t, h)
 
     pub resettled-alone : o .peer .held ≡ false
-        → record { reason = o .reason; oper = o .oper; error = o .error; mode = o .mode; peer = o .peer; configuration = s .desired } ≡ resettled f s o
+        → record { reason = o .reason; oper = o .oper; error = o .error; mode = o .mode; peer = o .peer; adopts = false } ≡ resettled f s o
     unfolding resettled
     resettled-alone h = simp (t, h)
 

@@ -1,8 +1,9 @@
 // One feature: its setting, its state and the rules that all three features share.
 ghost use mathlib.Core.Path.{_≡_};
-ghost use Rattle.parameters.specs.Parameters.{compatible, content};
+ghost use Rattle.parameters.specs.Parameters.{content, noParameters};
 ghost use Rattle.feature.specs.Reasons.{reasonNumber};
-ghost use Rattle.feature.specs.Outcome.{Received, lower, noPeer, heldPeer, withoutPeer, withPeer, unwilling, settled, outcome};
+ghost use Rattle.feature.specs.Outcome.{Received, configuration, lower, outcome, parametersOf, withPeer, withoutPeer};
+ghost use Rattle.feature.specs.OutcomeLaws.{decided, flagsOf, outcomeOf, peerOf, settledOn, switchesOf};
 use parameters::Feature;
 use parameters::Parameters;
 
@@ -46,14 +47,34 @@ pub struct Peer {
     pub parameters: Parameters,
 }
 
-// What the outcome rules decide. `configuration` is OperCfg.
+// What the outcome rules decide. OperCfg is the peer's configuration where the end `adopts` it, and else its own.
 pub struct Outcome {
     pub reason: Reason,
     pub oper: u8,
     pub error: bool,
     pub mode: bool,
     pub peer: Peer,
-    pub configuration: Parameters,
+    pub adopts: bool,
+}
+
+// An outcome but for the peer's parameters, which are long. `fault` is the peer's error flag.
+pub struct Decision {
+    pub reason: Reason,
+    pub oper: u8,
+    pub error: bool,
+    pub mode: bool,
+    pub held: bool,
+    pub enable: bool,
+    pub willing: bool,
+    pub fault: bool,
+    pub adopts: bool,
+}
+
+// The flags of a sub-TLV.
+pub struct Flags {
+    pub enable: bool,
+    pub willing: bool,
+    pub error: bool,
 }
 
 // A feature's state. `sequence` is FeatureSeqNo.
@@ -83,6 +104,19 @@ pub fn reason_number(r: Reason) -> u8
     }
 }
 
+// OperCfg, the configuration in force.
+pub fn configuration(x: State) -> Parameters
+    ensures { λ r. ⌜ r ≡ configuration (x .setting) (x .outcome) ⌝ }
+{
+    let s = x.setting;
+    let o = x.outcome;
+    let p = o.peer;
+    if o.adopts {
+        return p.parameters;
+    }
+    s.desired
+}
+
 // The lower of two versions.
 pub fn lower(a: u8, b: u8) -> u8
     ensures { λ r. ⌜ r ≡ lower a b ⌝ }
@@ -90,133 +124,153 @@ pub fn lower(a: u8, b: u8) -> u8
     if a <= b { a } else { b }
 }
 
-fn no_peer() -> Peer
-    ensures { λ r. ⌜ r ≡ noPeer ⌝ }
+// No parameters, as they are held where there is no peer.
+pub fn none() -> Parameters
+    ensures { λ r. ⌜ r ≡ noParameters ⌝ }
 {
-    let none = Parameters {
+    Parameters {
         length: 0,
         octets: [0; 96],
-    };
-    Peer {
-        held: false,
-        enable: false,
-        willing: false,
-        error: false,
-        parameters: none,
+    }
+}
+
+// An outcome by its decision and the peer's parameters.
+pub fn outcome_of(d: Decision, p: Parameters) -> Outcome
+    ensures { λ r. ⌜ r ≡ outcomeOf d p ⌝ }
+{
+    let why = d.reason;
+    Outcome {
+        reason: why,
+        oper: d.oper,
+        error: d.error,
+        mode: d.mode,
+        peer: Peer {
+            held: d.held,
+            enable: d.enable,
+            willing: d.willing,
+            error: d.fault,
+            parameters: p,
+        },
+        adopts: d.adopts,
     }
 }
 
 // Rules 1 to 5: no peer, mode false, own configuration.
-fn without_peer(s: Setting, why: Reason, oper: u8, error: bool) -> Outcome
-    ensures { λ r. ⌜ r ≡ withoutPeer s why oper error ⌝ }
+pub fn without_peer(why: Reason, oper: u8, error: bool) -> Decision
+    ensures { λ r. ⌜ r ≡ decided (withoutPeer why oper error) ⌝ }
 {
-    let peer = no_peer();
-    let own = s.desired;
-    Outcome {
+    Decision {
         reason: why,
         oper: oper,
         error: error,
         mode: false,
-        peer: peer,
-        configuration: own,
+        held: false,
+        enable: false,
+        willing: false,
+        fault: false,
+        adopts: false,
     }
 }
 
 // Rules 6 to 9: the peer is held.
-fn with_peer(why: Reason, oper: u8, error: bool, mode: bool, p: Peer, c: Parameters) -> Outcome
-    ensures { λ r. ⌜ r ≡ withPeer why oper error mode p c ⌝ }
+fn with_peer(why: Reason, oper: u8, error: bool, mode: bool, p: Flags, adopts: bool) -> Decision
+    ensures { λ r. ⌜ r ≡ decided (withPeer why oper error mode (peerOf p noParameters) adopts) ⌝ }
 {
-    Outcome {
+    Decision {
         reason: why,
         oper: oper,
         error: error,
         mode: mode,
-        peer: p,
-        configuration: c,
+        held: true,
+        enable: p.enable,
+        willing: p.willing,
+        fault: p.error,
+        adopts: adopts,
     }
-}
-
-// Where willing differs, the configuration of the end that is not.
-fn unwilling(s: Setting, p: Peer) -> Parameters
-    ensures { λ r. ⌜ r ≡ unwilling s p ⌝ }
-{
-    if s.willing {
-        return p.parameters;
-    }
-    s.desired
-}
-
-// Whether two configurations are compatible.
-fn fit(f: Feature, a: Parameters, b: Parameters) -> bool
-    ensures { λ r. ⌜ r ≡ compatible f (content a) (content b) ⌝ }
-{
-    let x = a.octets;
-    let y = b.octets;
-    parameters::compatible(f, octets::first(&x, a.length), octets::first(&y, b.length))
 }
 
 // Rules 6 to 9, at a version and with a peer that is held.
-pub fn settle(f: Feature, s: Setting, oper: u8, p: Peer) -> Outcome
-    ensures { λ r. ⌜ r ≡ settled f s oper p ⌝ }
+pub fn settle(f: Feature, s: Switches, own: &[u8], oper: u8, p: Flags, theirs: &[u8]) -> Decision
+    ensures { λ r. ⌜ r ≡ settledOn f s (now (own .entry)) oper p (now (theirs .entry)) ⌝ }
 {
-    let own = s.desired;
-    let theirs = p.parameters;
     if !s.enable {
-        return with_peer(Reason::Disabled, oper, false, false, p, own);
+        return with_peer(Reason::Disabled, oper, false, false, p, false);
     }
     if !p.enable {
-        return with_peer(Reason::Disabled, oper, false, false, p, own);
+        return with_peer(Reason::Disabled, oper, false, false, p, false);
     }
     if s.willing != p.willing {
-        let chosen = unwilling(s, p);
-        return with_peer(Reason::Agreed, oper, false, !p.error, p, chosen);
+        return with_peer(Reason::Agreed, oper, false, !p.error, p, s.willing);
     }
-    if fit(f, own, theirs) {
-        return with_peer(Reason::Agreed, oper, false, !p.error, p, own);
+    if parameters::compatible(f, own, theirs) {
+        return with_peer(Reason::Agreed, oper, false, !p.error, p, false);
     }
-    with_peer(Reason::NotCompatible, oper, true, false, p, own)
+    with_peer(Reason::NotCompatible, oper, true, false, p, false)
 }
 
-// The peer as its sub-TLV shows it.
-fn held_peer(f: Feature, value: &[u8]) -> Peer
-    ensures { λ r. ⌜ r ≡ heldPeer f (now (value .entry)) ⌝ }
+// The switches of a setting.
+pub fn switches_of(s: Setting) -> Switches
+    ensures { λ r. ⌜ r ≡ switchesOf s ⌝ }
+{
+    Switches {
+        advertise: s.advertise,
+        enable: s.enable,
+        willing: s.willing,
+    }
+}
+
+// The flags of a sub-TLV, of its value.
+fn flags_in(value: &[u8]) -> Flags
+    ensures { λ r. ⌜ r ≡ flagsOf (now (value .entry)) ⌝ }
 {
     let flags = octets::octet(value, 2);
-    let held = parameters::hold(f, octets::from(value, 4));
-    Peer {
-        held: true,
+    Flags {
         enable: 128 <= flags,
         willing: 64 <= flags % 128,
         error: 32 <= flags % 64,
-        parameters: held,
     }
 }
 
+// Rules 6 to 9 of a sub-TLV's value.
+fn settle_value(f: Feature, s: Setting, oper: u8, value: &[u8]) -> Decision
+    ensures { λ r. ⌜ r ≡ settledOn f (switchesOf s) (content (s .desired)) oper (flagsOf (now (value .entry))) (parametersOf (now (value .entry))) ⌝ }
+{
+    let own = switches_of(s);
+    let desired = octets::first(&s.desired.octets, octets::wide(s.desired.length));
+    settle(
+        f,
+        own,
+        desired,
+        oper,
+        flags_in(value),
+        octets::from(value, 4),
+    )
+}
+
 // The outcome rules, first that applies: `count` sub-TLVs of the feature came, and `value` is that of the last.
-pub fn decide(f: Feature, max: u8, s: Setting, oper: u8, count: u8, value: &[u8]) -> Outcome
-    ensures { λ r. ⌜ r ≡ outcome f max s oper (record { count = count; value = now (value .entry) }) ⌝ }
+pub fn decide(f: Feature, max: u8, s: Setting, oper: u8, count: u8, value: &[u8]) -> Decision
+    ensures { λ r. ⌜ r ≡ decided (outcome f max s oper (record { count = count; value = now (value .entry) })) ⌝ }
 {
     if count == 0 {
-        return without_peer(s, Reason::Absent, max, false);
+        return without_peer(Reason::Absent, max, false);
     }
     if 1 < count {
-        return without_peer(s, Reason::Duplicate, oper, true);
+        return without_peer(Reason::Duplicate, oper, true);
     }
     if value.len() < 4 {
-        return without_peer(s, Reason::Bad, oper, true);
+        return without_peer(Reason::Bad, oper, true);
     }
     let theirs = octets::octet(value, 0);
     let highest = octets::octet(value, 1);
     if highest < theirs {
-        return without_peer(s, Reason::Bad, oper, true);
+        return without_peer(Reason::Bad, oper, true);
     }
     let low = lower(max, highest);
     if theirs != low {
-        return without_peer(s, Reason::Waiting, low, false);
+        return without_peer(Reason::Waiting, low, false);
     }
     if !parameters::valid(f, octets::from(value, 4)) {
-        return without_peer(s, Reason::Bad, low, true);
+        return without_peer(Reason::Bad, low, true);
     }
-    let peer = held_peer(f, value);
-    settle(f, s, low, peer)
+    settle_value(f, s, low, value)
 }

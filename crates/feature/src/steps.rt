@@ -1,16 +1,21 @@
-// A feature's state: fresh, acknowledged, received, marked, set anew.
+// A feature's state: fresh, after a frame, marked, set anew, written.
 ghost use mathlib.Core.Path.{_≡_};
 ghost use Prim.Native.Nat.{_+_, _*_, _≤_};
 ghost use mathlib.Core.List.{[], _∷_};
-ghost use mathlib.Core.Bool.{not};
+ghost use mathlib.Core.Bool.{true, false, not, _||_, _&&_};
 ghost use lib.ListN.{length};
 ghost use lib.Seq.{sets};
-ghost use Rattle.octets.specs.Words.{if_then_else_};
+ghost use Rattle.octets.specs.Words.{if_then_else_, _is_};
 ghost use Rattle.octets.specs.Octets.{same};
 ghost use Rattle.parameters.specs.Parameters.{content};
+ghost use Rattle.feature.specs.Outcome.{settled};
 ghost use Rattle.feature.specs.StateLaws.{Room, Sized, parts};
+ghost use Rattle.feature.specs.TurnLaws.{after, heldAfter, keepsBy, keptAt, renewed, turnOf, weighed};
 ghost use Rattle.feature.specs.State.{freshAt, stopped, controlTwice, acknowledged, received, changed, marked, next, flags, subTlv, settingOf, sameSetting, resettled, reset};
+use crate::Decision;
+use crate::Flags;
 use crate::Outcome;
+use crate::Peer;
 use crate::Reason;
 use crate::Setting;
 use crate::State;
@@ -18,12 +23,29 @@ use crate::Switches;
 use parameters::Feature;
 use parameters::Parameters;
 
+// Which way a frame takes through steps 1 to 4: its control came twice, it runs at another version, or its features are handled.
+pub enum Course {
+    Twice,
+    OtherVersion,
+    Exchange,
+}
+
+// What a frame makes of a feature, but for the peer's parameters.
+pub struct Turn {
+    pub decision: Decision,
+    pub syncd: bool,
+    pub sequence: u32,
+}
+
 // The fresh state of a setting (01, Port events).
 pub fn fresh_at(sequence: u32, max: u8, s: Setting) -> State
     ensures { λ r. ⌜ r ≡ freshAt sequence max s ⌝ }
 {
     if s.advertise {
-        let outcome = crate::without_peer(s, Reason::NoPeerYet, max, false);
+        let outcome = crate::outcome_of(
+            crate::without_peer(Reason::NoPeerYet, max, false),
+            crate::none(),
+        );
         return State {
             max: max,
             setting: s,
@@ -32,16 +54,9 @@ pub fn fresh_at(sequence: u32, max: u8, s: Setting) -> State
             sequence: sequence,
         };
     }
-    let peer = crate::no_peer();
-    let own = s.desired;
-    let outcome = Outcome {
-        reason: Reason::NotAdvertised,
-        oper: max,
-        error: false,
-        mode: s.enable,
-        peer: peer,
-        configuration: own,
-    };
+    let mut decision = crate::without_peer(Reason::NotAdvertised, max, false);
+    decision.mode = s.enable;
+    let outcome = crate::outcome_of(decision, crate::none());
     State {
         max: max,
         setting: s,
@@ -62,48 +77,159 @@ pub fn stopped(x: State) -> State
     next
 }
 
+// The feature stays as it is, but for Syncd.
+fn kept(x: State, syncd: bool) -> Turn
+    ensures { λ r. ⌜ r ≡ keptAt x syncd ⌝ }
+{
+    let o = x.outcome;
+    let p = o.peer;
+    let why = o.reason;
+    Turn {
+        decision: Decision {
+            reason: why,
+            oper: o.oper,
+            error: o.error,
+            mode: o.mode,
+            held: p.held,
+            enable: p.enable,
+            willing: p.willing,
+            fault: p.error,
+            adopts: o.adopts,
+        },
+        syncd: syncd,
+        sequence: x.sequence,
+    }
+}
+
+// Step 5 of handling: a feature whose sub-TLV changed waits for a new acknowledgement.
+fn weigh(x: State, d: Decision, syncd: bool, seq: u32) -> Turn
+    ensures { λ r. ⌜ r ≡ weighed x d syncd seq ⌝ }
+{
+    let o = x.outcome;
+    if o.oper != d.oper {
+        return anew(d, seq);
+    }
+    if o.error != d.error {
+        return anew(d, seq);
+    }
+    Turn {
+        decision: d,
+        syncd: syncd,
+        sequence: x.sequence,
+    }
+}
+
+fn anew(d: Decision, seq: u32) -> Turn
+    ensures { λ r. ⌜ r ≡ record { decision = d; syncd = false; sequence = next seq } ⌝ }
+{
+    let up = std::num::wrapping_add_u32(seq, 1);
+    Turn {
+        decision: d,
+        syncd: false,
+        sequence: up,
+    }
+}
+
 // Step 1 of handling: the frame had two or more controls.
-pub fn control_twice(x: State) -> State
-    ensures { λ r. ⌜ r ≡ controlTwice x ⌝ }
+fn twice(f: Feature, x: State, seq: u32) -> Turn
+    ensures { λ r. ⌜ r ≡ turnOf (marked f seq x (controlTwice x)) ⌝ }
+{
+    let s = x.setting;
+    let o = x.outcome;
+    if !s.advertise {
+        return kept(x, x.syncd);
+    }
+    weigh(
+        x,
+        crate::without_peer(Reason::ControlTwice, o.oper, true),
+        x.syncd,
+        seq,
+    )
+}
+
+// Step 3 of handling: whether the feature is Syncd, by what RcvdAckNo and SeqNo acknowledge.
+fn acknowledged(x: State, rcvd: u32, seq: u32) -> bool
+    ensures { λ r. ⌜ r ≡ (x .syncd || (x .sequence is rcvd && x .sequence is seq)) ⌝ }
+{
+    x.syncd | ((x.sequence == rcvd) & (x.sequence == seq))
+}
+
+// Steps 3 and 4 of handling, the outcome rules on what the frame had of the feature; and step 5.
+fn receive(f: Feature, x: State, rcvd: u32, seq: u32, count: u8, value: &[u8]) -> Turn
+    ensures { λ r. ⌜ r ≡ turnOf (marked f seq x (received f (record { count = count; value = now (value .entry) }) (acknowledged rcvd seq x))) ⌝ }
+{
+    let s = x.setting;
+    let o = x.outcome;
+    let syncd = acknowledged(x, rcvd, seq);
+    if !s.advertise {
+        return kept(x, syncd);
+    }
+    weigh(
+        x,
+        crate::decide(f, x.max, x.setting, o.oper, count, value),
+        syncd,
+        seq,
+    )
+}
+
+// Steps 1 to 5 for one feature.
+pub fn handle(
+    f: Feature,
+    x: State,
+    course: Course,
+    rcvd: u32,
+    seq: u32,
+    count: u8,
+    value: &[u8],
+) -> Turn
+    ensures { λ r. ⌜ r ≡ turnOf (after course f (record { count = count; value = now (value .entry) }) rcvd seq x) ⌝ }
+{
+    match course {
+        Course::Twice => twice(f, x, seq),
+        Course::OtherVersion => kept(x, x.syncd),
+        Course::Exchange => receive(f, x, rcvd, seq, count, value),
+    }
+}
+
+// Whether a frame leaves what is held of the peer.
+fn keeps(x: State, course: Course) -> bool
+    ensures { λ r. ⌜ r ≡ keepsBy course x ⌝ }
 {
     let s = x.setting;
     if !s.advertise {
-        return x;
+        return true;
     }
-    let o = x.outcome;
-    let outcome = crate::without_peer(s, Reason::ControlTwice, o.oper, true);
-    let mut next = x;
-    next.outcome = outcome;
-    next
+    match course {
+        Course::Twice => false,
+        Course::OtherVersion => true,
+        Course::Exchange => false,
+    }
 }
 
-// Step 3 of handling: what RcvdAckNo and SeqNo acknowledge.
-pub fn acknowledge(x: State, rcvd: u32, seq: u32) -> State
-    ensures { λ r. ⌜ r ≡ acknowledged rcvd seq x ⌝ }
+// The parameters held of the peer after a frame: `held` says whether there is one.
+pub fn held_after(f: Feature, x: State, course: Course, held: bool, value: &[u8]) -> Parameters
+    ensures { λ r. ⌜ r ≡ heldAfter course f (now (value .entry)) held x ⌝ }
 {
-    if x.sequence != rcvd {
-        return x;
+    let o = x.outcome;
+    let p = o.peer;
+    if keeps(x, course) {
+        return p.parameters;
     }
-    if x.sequence != seq {
-        return x;
+    if held {
+        return parameters::hold(f, octets::from(value, 4));
     }
-    let mut next = x;
-    next.syncd = true;
-    next
+    crate::none()
 }
 
-// Step 4 of handling: the outcome rules on what the frame had of the feature.
-pub fn receive(x: State, f: Feature, count: u8, value: &[u8]) -> State
-    ensures { λ r. ⌜ r ≡ received f (record { count = count; value = now (value .entry) }) x ⌝ }
+// The state after a frame.
+pub fn renew(x: State, t: Turn, p: Parameters) -> State
+    ensures { λ r. ⌜ r ≡ renewed x t p ⌝ }
 {
-    let s = x.setting;
-    if !s.advertise {
-        return x;
-    }
-    let o = x.outcome;
-    let outcome = crate::decide(f, x.max, s, o.oper, count, value);
+    let outcome = crate::outcome_of(t.decision, p);
     let mut next = x;
     next.outcome = outcome;
+    next.syncd = t.syncd;
+    next.sequence = t.sequence;
     next
 }
 
@@ -129,9 +255,10 @@ fn flags_of(x: State) -> u8
 fn same_content(a: Parameters, b: Parameters) -> bool
     ensures { λ r. ⌜ r ≡ same (content a) (content b) ⌝ }
 {
-    let x = a.octets;
-    let y = b.octets;
-    octets::same_octets(octets::first(&x, a.length), octets::first(&y, b.length))
+    octets::same_octets(
+        octets::first(&a.octets, octets::wide(a.length)),
+        octets::first(&b.octets, octets::wide(b.length)),
+    )
 }
 
 // Whether the written sub-TLV changed from one state to another.
@@ -211,23 +338,40 @@ pub fn same_setting(s: Setting, t: Setting) -> bool
     parameters::same_parameters(a, b)
 }
 
+// Rules 6 to 9 again, for a peer that is held.
+fn settle_again(f: Feature, s: Setting, oper: u8, p: Peer) -> Outcome
+    requires { ⌜ p .held ≡ true ⌝ }
+    ensures { λ r. ⌜ r ≡ settled f s oper p ⌝ }
+{
+    let q = p.parameters;
+    let flags = Flags {
+        enable: p.enable,
+        willing: p.willing,
+        error: p.error,
+    };
+    let own = crate::switches_of(s);
+    let desired = octets::first(&s.desired.octets, octets::wide(s.desired.length));
+    let theirs = octets::first(&q.octets, octets::wide(q.length));
+    let decision = crate::settle(f, own, desired, oper, flags, theirs);
+    crate::outcome_of(decision, q)
+}
+
 // The outcome under another setting that is advertised just as the one before.
 fn resettle(f: Feature, s: Setting, o: Outcome) -> Outcome
     ensures { λ r. ⌜ r ≡ resettled f s o ⌝ }
 {
-    let own = s.desired;
     let peer = o.peer;
     if !s.advertise {
         let mut next = o;
         next.mode = s.enable;
-        next.configuration = own;
+        next.adopts = false;
         return next;
     }
     if peer.held {
-        return crate::settle(f, s, o.oper, peer);
+        return settle_again(f, s, o.oper, peer);
     }
     let mut next = o;
-    next.configuration = own;
+    next.adopts = false;
     next
 }
 

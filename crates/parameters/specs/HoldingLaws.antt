@@ -1,5 +1,5 @@
 -- Laws of parameters as a state holds them. Assumes nothing.
-use Prim.Native.Nat.{ℕ, suc, _+_, _-_, _≤_, _<_, min}
+use Prim.Native.Nat.{ℕ, suc, _+_, _-_, _%_, _≤_, _<_, min}
 use native.Mathlib.Omega.{arith}
 use native.Mathlib.Numerals.{add-one}
 use mathlib.Core.Path.{_≡_, refl, sym, _∙_}
@@ -44,11 +44,11 @@ module _ {f : Feature} {p held : List ℕ} {n i : ℕ} where
         octets = t ∙ rw (add-one, take-suc (plain f p) i 0 k, a) (sym (append-snoc (take i (plain f p)) x (replicate (96 - suc i) 0)));
       }
 
-  pub holding-end : Holding f p held n i → n ≤ i → record { length = n; octets = held } ≡ stored (plain f p)
+  pub holding-end : Holding f p held n i → n ≤ i → record { length = n % 256; octets = held } ≡ stored (plain f p)
   unfolding stored
   holding-end r h =
       let l = length-plain f p in
-      let a : n ≡ length (take 96 (plain f p)) = simp length-take (omega arith) in
+      let a : n % 256 ≡ length (take 96 (plain f p)) = simp length-take (omega arith) in
       let b : 96 - i ≡ 96 - length (plain f p) = omega arith in
       let d : i ≡ min 96 (length (plain f p)) = omega arith in
       let t : take i (plain f p) ≡ take 96 (plain f p) = rw d (take-min 96 (plain f p)) in

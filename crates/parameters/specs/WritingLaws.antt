@@ -1,9 +1,10 @@
 -- How many octets a configuration has. Assumes nothing.
-use Prim.Native.Nat.{ℕ, _≤_}
-use mathlib.Core.Path.{_≡_, ap}
+use Prim.Native.Nat.{ℕ, _+_, _≤_}
+use mathlib.Core.Path.{_≡_, _∙_, ap}
 use mathlib.Core.List.{List}
 use native.Mathlib.Omega.{arith}
 use lib.ListN.{length, take, length-take}
+use lib.Seq.{sets}
 use Rattle.parameters.specs.declared.Parameters.{Parameters}
 use Rattle.parameters.specs.Parameters.{content}
 
@@ -11,6 +12,18 @@ pub record Size (p : Parameters) (n : ℕ) : Type 0 where
   pub is : n ≡ length (content p)
   pub small : n ≤ 96
 
-pub size-of : (p : Parameters) {held : List ℕ} → length (p .octets) ≡ 96 → held ≡ take (p .length) (p .octets) → Size p (length held)
-unfolding content
-size-of p l e = record { is = ap length e; small = rw e (simp length-take (omega arith)) }
+-- the part of the octets that the length tells
+module _ (p : Parameters) {held : List ℕ} {n : ℕ} (e : n ≡ p .length) (h : held ≡ take n (p .octets)) where
+  pub content-of : held ≡ content p
+  unfolding content
+  content-of = h ∙ ap (λ (m : ℕ). take m (p .octets)) e
+
+  pub size-of : length (p .octets) ≡ 96 → Size p (length held)
+  size-of l = record { is = ap length content-of; small = rw h (simp length-take (omega arith)) }
+
+  module _ (out : List ℕ) (i : ℕ) where
+    pub room-of : i + length (content p) ≤ length out → i + length held ≤ length out
+    room-of r = rw content-of r
+
+    pub put-of : {now : List ℕ} → now ≡ sets out i held → now ≡ sets out i (content p)
+    put-of w = w ∙ ap (sets out i) content-of

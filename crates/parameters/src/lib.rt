@@ -18,7 +18,7 @@ pub enum Feature {
 
 // A configuration: the octets of a feature's parameters, zero past `length`.
 pub struct Parameters {
-    pub length: usize,
+    pub length: u8,
     pub octets: [u8; 96],
 }
 
@@ -99,7 +99,7 @@ pub fn hold(f: Feature, p: &[u8]) -> Parameters
         i += 1;
     }
     Parameters {
-        length: n,
+        length: (n % 256) as u8,
         octets: held,
     }
 }

@@ -11,9 +11,8 @@ use crate::Parameters;
 pub fn size(p: Parameters) -> usize
     ensures { λ r. ⌜ Size p r ⌝ }
 {
-    let held = p.octets;
-    let octets = octets::first(&held, p.length);
-    octets.len()
+    let held = octets::first(&p.octets, octets::wide(p.length));
+    held.len()
 }
 
 // Writes them at `at`, where the caller has room for them.
@@ -21,6 +20,5 @@ pub fn put(out: &mut [u8], at: usize, p: Parameters)
     requires { ⌜ at + length (content p) ≤ length (now out) ⌝ }
     ensures { λ _. ⌜ now (out .exit) ≡ sets (now (out .entry)) at (content p) ⌝ }
 {
-    let held = p.octets;
-    octets::numbers::put(out, at, octets::first(&held, p.length));
+    octets::numbers::put(out, at, octets::first(&p.octets, octets::wide(p.length)));
 }

@@ -1,6 +1,5 @@
 -- What stands beside the proofs of the functions: every event keeps a port sound. Assumes nothing.
 pub mod Tests
-pub mod Rules
 pub mod Soundness
 pub mod Fresh
 pub mod Standing

@@ -33,7 +33,7 @@ use Rattle.port.specs.Parts.{featureOf, withControl, some}
 use Rattle.port.specs.PortEvents.{withSeq, unsynced, sent, step5, completed}
 use Rattle.port.specs.Handling.{Message, message, twice, met, exchanged, once, steps1to4}
 use Rattle.port.specs.Sound.{SoundParameters, SoundSetting, SoundPeer, SoundState, SoundControl, SoundPort}
-use Rattle.port.proofs.Rules.{judged, settled-by}
+use Rattle.feature.specs.Rules.{judged, settled-by}
 
 -- ---- outcomes
 
@@ -47,28 +47,23 @@ sound-stored f o v =
 pub record SoundOutcome (f : Feature) (max : ℕ) (o : Outcome) : Type 0 where
   pub oper : o .oper ≤ max
   pub peer : SoundPeer f (o .peer)
-  pub configuration : SoundParameters f (o .configuration)
+  pub adopted : o .adopts ≡ true → o .peer .held ≡ true
 
 module _ (f : Feature) (max : ℕ) (s : Setting) (h : SoundSetting f s) where
-  without-sound : (why : Reason) (oper : ℕ) (error : Bool) → oper ≤ max → SoundOutcome f max (withoutPeer s why oper error)
+  without-sound : (why : Reason) (oper : ℕ) (error : Bool) → oper ≤ max → SoundOutcome f max (withoutPeer why oper error)
   without-sound why oper error k =
-      record { oper = k; peer = record { none = λ e. refl; some = λ e. absurd (false≢true e) }; configuration = h .desired }
-
-  -- rule 7's configuration
-  unwilling-sound : (b : Bool) (p : Parameters) → SoundParameters f p → SoundParameters f (if b then p else s .desired)
-  unwilling-sound true p k = k
-  unwilling-sound false p k = h .desired
+      record { oper = k; peer = record { none = λ e. refl; some = λ e. absurd (false≢true e) }; adopted = λ e. absurd (false≢true e) }
 
   module _ (oper : ℕ) (k : oper ≤ max) (p : Peer) (held : p .held ≡ true) (good : SoundParameters f (p .parameters)) where
     held-sound : SoundPeer f p
     held-sound = record { none = λ e. absurd (false≢true (sym e ∙ held)); some = λ e. good }
 
-    judged-sound : (a b c : Bool) → SoundOutcome f max (judged a b c s oper p)
+    judged-sound : (a b c : Bool) → SoundOutcome f max (judged a b c (s .willing) oper p)
     unfolding judged
-    judged-sound false b c = record { oper = k; peer = held-sound; configuration = h .desired }
-    judged-sound true false c = record { oper = k; peer = held-sound; configuration = unwilling-sound (s .willing) (p .parameters) good }
-    judged-sound true true true = record { oper = k; peer = held-sound; configuration = h .desired }
-    judged-sound true true false = record { oper = k; peer = held-sound; configuration = h .desired }
+    judged-sound false b c = record { oper = k; peer = held-sound; adopted = λ e. held }
+    judged-sound true false c = record { oper = k; peer = held-sound; adopted = λ e. held }
+    judged-sound true true true = record { oper = k; peer = held-sound; adopted = λ e. held }
+    judged-sound true true false = record { oper = k; peer = held-sound; adopted = λ e. held }
 
     pub settled-sound : SoundOutcome f max (settled f s oper p)
     settled-sound = rw settled-by (judged-sound _ _ _)
@@ -76,11 +71,11 @@ module _ (f : Feature) (max : ℕ) (s : Setting) (h : SoundSetting f s) where
   -- rules 1 to 5 over their tests
   ruled-sound : (oper low : ℕ) → oper ≤ max → low ≤ max → (v : List ℕ) (a b c d e : Bool) → valid f (parametersOf v) ≡ e →
       SoundOutcome f max
-      (if a then withoutPeer s Absent max false
-      else if b then withoutPeer s Duplicate oper true
-      else if c then withoutPeer s Bad oper true
-      else if not d then withoutPeer s Waiting low false
-      else if not e then withoutPeer s Bad low true
+      (if a then withoutPeer Absent max false
+      else if b then withoutPeer Duplicate oper true
+      else if c then withoutPeer Bad oper true
+      else if not d then withoutPeer Waiting low false
+      else if not e then withoutPeer Bad low true
       else settled f s low (heldPeer f v))
   ruled-sound oper low k l v true b c d e g = without-sound Absent max false (le-refl max)
   ruled-sound oper low k l v false true c d e g = without-sound Duplicate oper true k
@@ -104,12 +99,12 @@ next-small n = mod-lt (n + 1) (lit< tt)
 module _ (f : Feature) where
   with-sound : (x : State) (o : Outcome) → SoundState f x → SoundOutcome f (x .max) o → SoundState f (withOutcome x o)
   with-sound x o h k =
-      record { max = h .max; oper = k .oper; sequence = h .sequence; setting = h .setting; peer = k .peer; configuration = k .configuration }
+      record { max = h .max; oper = k .oper; sequence = h .sequence; setting = h .setting; peer = k .peer; adopted = k .adopted }
 
   acknowledged-sound : (rcvd seq : ℕ) (x : State) → SoundState f x → SoundState f (acknowledged rcvd seq x)
   unfolding acknowledged
   acknowledged-sound rcvd seq x h =
-      record { max = h .max; oper = h .oper; sequence = h .sequence; setting = h .setting; peer = h .peer; configuration = h .configuration }
+      record { max = h .max; oper = h .oper; sequence = h .sequence; setting = h .setting; peer = h .peer; adopted = h .adopted }
 
   -- where a test decides between two states
   pub either-sound : (b : Bool) (x y : State) → SoundState f x → SoundState f y → SoundState f (if b then x else y)
@@ -134,7 +129,7 @@ module _ (f : Feature) where
   unfolding marked
   marked-sound seq x y h =
       either-sound (y .setting .advertise && changed f x y) _ y
-      (record { max = h .max; oper = h .oper; sequence = next-small seq; setting = h .setting; peer = h .peer; configuration = h .configuration })
+      (record { max = h .max; oper = h .oper; sequence = next-small seq; setting = h .setting; peer = h .peer; adopted = h .adopted })
       h
 
 -- ---- the port

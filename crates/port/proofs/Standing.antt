@@ -163,7 +163,7 @@ setting-sound f w o e =
 
 module _ (f : Feature) (s : Setting) (k : SoundSetting f s) (x : State) (h : SoundState f x) where
   with-setting-sound : SoundState f (withSetting x s)
-  with-setting-sound = record { max = h .max; oper = h .oper; sequence = h .sequence; setting = k; peer = h .peer; configuration = h .configuration }
+  with-setting-sound = record { max = h .max; oper = h .oper; sequence = h .sequence; setting = k; peer = h .peer; adopted = h .adopted }
 
   resettled-sound : SoundOutcome f (x .max) (resettled f s (x .outcome))
   unfolding resettled
@@ -172,20 +172,20 @@ module _ (f : Feature) (s : Setting) (k : SoundSetting f s) (x : State) (h : Sou
       by : (a b : Bool) → x .outcome .peer .held ≡ b
           → SoundOutcome f (x .max)
           (if not a then
-          record { reason = x .outcome .reason; oper = x .outcome .oper; error = x .outcome .error; mode = s .enable; peer = x .outcome .peer; configuration = s .desired }
+          record { reason = x .outcome .reason; oper = x .outcome .oper; error = x .outcome .error; mode = s .enable; peer = x .outcome .peer; adopts = false }
           else if b then settled f s (x .outcome .oper) (x .outcome .peer)
           else
-          record { reason = x .outcome .reason; oper = x .outcome .oper; error = x .outcome .error; mode = x .outcome .mode; peer = x .outcome .peer; configuration = s .desired })
-      by false b e = record { oper = h .oper; peer = h .peer; configuration = k .desired }
+          record { reason = x .outcome .reason; oper = x .outcome .oper; error = x .outcome .error; mode = x .outcome .mode; peer = x .outcome .peer; adopts = false })
+      by false b e = record { oper = h .oper; peer = h .peer; adopted = λ e. absurd (false≢true e) }
       by true true e = settled-sound f (x .max) s k (x .outcome .oper) (h .oper) (x .outcome .peer) e (h .peer .some e)
-      by true false e = record { oper = h .oper; peer = h .peer; configuration = k .desired }
+      by true false e = record { oper = h .oper; peer = h .peer; adopted = λ e. absurd (false≢true e) }
 
   reset-sound : (seq : ℕ) → SoundState f (reset f seq s x)
   unfolding reset
   reset-sound seq =
       let o = resettled-sound in
       either-sound f (Bool·beq (x .setting .advertise) (s .advertise)) _ _
-      (record { max = h .max; oper = o .oper; sequence = h .sequence; setting = k; peer = o .peer; configuration = o .configuration })
+      (record { max = h .max; oper = o .oper; sequence = h .sequence; setting = k; peer = o .peer; adopted = o .adopted })
       (fresh-sound (next seq) (x .max) s f (h .max) (next-small seq) k)
 
 feature-kept : (p : Port) (f : Feature) (x : State) → SoundPort p → SoundState f x → SoundPort (withFeature p f x)

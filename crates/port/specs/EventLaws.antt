@@ -5,6 +5,7 @@ use mathlib.Core.Bool.{Bool, true, false, not, _&&_, _||_, Bool·beq, and-false}
 use mathlib.Core.Path.{_≡_, _∙_, refl, sym, ap}
 use mathlib.Core.List.{List}
 use borrow.Author.Tests.{not-true, not-false, eq-eqb, ne-eqb}
+use Rattle.octets.specs.Words.{if_then_else_, _is_}
 use Rattle.tlv.specs.declared.Refusal.the-variants.{NotRunning, InvalidSetting, UnknownFeature}
 use Rattle.parameters.specs.Parameters.{validLocal}
 use Rattle.parameters.specs.declared.Feature.{Feature}
@@ -27,24 +28,38 @@ use Rattle.port.specs.declared.Notices.{Notices}
 use Rattle.port.specs.declared.Event.{Event}
 use Rattle.notices.specs.declared.Kind.the-variants.{PeerGone}
 use Rattle.port.specs.Writing.{asks}
-use Rattle.port.specs.Parts.{featureOf, three, withControl, withFeatures, withFlag, flagOf, running}
+use Rattle.port.specs.Parts.{featureOf, three, withControl, withFeatures, some, withFlag, flagOf, running}
 use Rattle.port.specs.PortEvents.{unsynced, sent, withSeq, freshControl, freshParts, freshPort, completed, noticed, becomes, raises, restarts, flagSet, withFeature, withSetting, settingChanged, noSetting, blankPort, started, silent, event, unchanged, refused, flagNotice, flagged, peerGone, setTo, changedFeature, changedSetting, made, created, settingsValid}
 
 -- ---- the send rule
 
-module _ (p : Port) {g w a : Bool} (eg : g ≡ unsynced (p .groups)) (ew : w ≡ unsynced (p .flow)) (ea : a ≡ unsynced (p .applications)) where
-  pub sent-synced : not (g || w || a) ≡ true → p ≡ sent p
-  unfolding sent
-  sent-synced t = simp (← eg, ← ew, ← ea, not-true (g || w || a) t)
+-- it changes only SeqNo, if at all
+abbrev pub counted : Bool → Control → Control
+counted b k = if b then withSeq k (next (k .seq)) else k
 
-  module _ (t : not (g || w || a) ≡ false) where
-    pub sent-waits : (p .control .rcvd ≡ p .control .seq → ⊥) → p ≡ sent p
-    unfolding sent
-    sent-waits n = simp (← eg, ← ew, ← ea, not-false (g || w || a) t, ne-eqb (p .control .rcvd) (p .control .seq) n)
+module _ (k : Control) (w : Bool) where
+  pub count-idle : not w ≡ true → k ≡ counted (w && k .rcvd is k .seq) k
+  count-idle t = simp (not-true w t)
 
-    pub sent-next : {n : ℕ} → p .control .rcvd ≡ p .control .seq → n ≡ next (p .control .seq) → withControl p (withSeq (p .control) n) ≡ sent p
-    unfolding sent
-    sent-next e h = simp (h, ← eg, ← ew, ← ea, not-false (g || w || a) t, eq-eqb (p .control .rcvd) (p .control .seq) e)
+  module _ (t : not w ≡ false) where
+    pub count-early : (k .rcvd ≡ k .seq → ⊥) → k ≡ counted (w && k .rcvd is k .seq) k
+    count-early n = simp (not-false w t, ne-eqb (k .rcvd) (k .seq) n)
+
+    pub count-next : {n : ℕ} → k .rcvd ≡ k .seq → n ≡ next (k .seq) → withSeq k n ≡ counted (w && k .rcvd is k .seq) k
+    count-next e h = simp (h, not-false w t, eq-eqb (k .rcvd) (k .seq) e)
+
+pub sent-counted : (p : Port) (k : Control) (x : Feature → State) →
+    sent (withFeatures (withControl p k) x) ≡ withFeatures (withControl p (counted (some (λ f. unsynced (x f)) && k .rcvd is k .seq) k)) x
+unfolding sent
+sent-counted p k x = by (some (λ f. unsynced (x f)) && k .rcvd is k .seq)
+  where
+    by : (b : Bool) → (if b then withFeatures (withControl p (withSeq k (next (k .seq)))) x else withFeatures (withControl p k) x) ≡ withFeatures (withControl p (counted b k)) x
+    by true = refl
+    by false = refl
+
+pub sent-is : (p : Port) {g w a : Bool} {k : Control} → g ≡ unsynced (p .groups) → w ≡ unsynced (p .flow) → a ≡ unsynced (p .applications)
+    → k ≡ counted ((g || w || a) && p .control .rcvd is p .control .seq) (p .control) → withControl p k ≡ sent p
+sent-is p eg ew ea ek = rw (ek, eg, ew, ea) (sym (sent-counted p (p .control) (featureOf p)))
 
 -- ---- fresh states
 

@@ -2,7 +2,7 @@
 -- which a test leaves them. Assumes nothing.
 use Prim.Native.Nat.{ℕ, _+_, _-_, _/_, _%_, _<_, _≤_, _^_}
 use mathlib.Core.Path.{_≡_, _∙_, refl, sym, ap, ap₂}
-use mathlib.Core.Bool.{Bool, true, false, not, Bool·beq, false≢true}
+use mathlib.Core.Bool.{Bool, true, false, not, _||_, Bool·beq, false≢true}
 use mathlib.Core.List.{List, [], _∷_, _++_}
 use native.Mathlib.Omega.{arith}
 use native.Mathlib.Nat.{zero-add}
@@ -294,6 +294,45 @@ module _ (p q : Port) {a b : Bool} (ea : a ≡ running p) (eb : b ≡ running q)
     pub asks-running : {r : Bool} → not a ≡ false → r ≡ not (same (frame p) (frame q)) → r ≡ asks p q
     unfolding asks toWrite
     asks-running u e = let f : a ≡ true = not-false a u in e ∙ simp (sym ea ∙ f, sym eb ∙ sym (alike a b t) ∙ f)
+
+-- two running ports with sub-TLVs of the same lengths, by the parts of their frames
+module _ (p q : Port) (lg : length (tlvOf p Groups) ≡ length (tlvOf q Groups)) (lw : length (tlvOf p Flow) ≡ length (tlvOf q Flow)) where
+  unlike-part : (f : Feature) (x y : State) → true ≡ changed f x y → subTlv f x ≡ subTlv f y → ⊥
+  unlike-part f x y t e = false≢true (changed-not f x y e ∙ sym t)
+
+  alike-part : (f : Feature) (x y : State) → false ≡ changed f x y → subTlv f x ≡ subTlv f y
+  unfolding changed
+  alike-part f x y t = same-is (subTlv f x) (subTlv f y) (not-false (same (subTlv f x) (subTlv f y)) (sym t))
+
+  module _ (e : frame p ≡ frame q) where
+    part-groups : tlvOf p Groups ≡ tlvOf q Groups
+    part-groups = append-left (tlvOf p Groups) (tlvOf q Groups) _ _ lg (features-of p q e)
+
+    part-rest : tlvOf p Flow ++ tlvOf p Applications ≡ tlvOf q Flow ++ tlvOf q Applications
+    part-rest = append-right (tlvOf p Groups) (tlvOf q Groups) _ _ lg (features-of p q e)
+
+    part-flow : tlvOf p Flow ≡ tlvOf q Flow
+    part-flow = append-left (tlvOf p Flow) (tlvOf q Flow) _ _ lw part-rest
+
+    part-applications : tlvOf p Applications ≡ tlvOf q Applications
+    part-applications = append-right (tlvOf p Flow) (tlvOf q Flow) _ _ lw part-rest
+
+  frames-parts : (s g w a : Bool) → s ≡ same (controlValue (p .control)) (controlValue (q .control)) → g ≡ changed Groups (p .groups) (q .groups)
+      → w ≡ changed Flow (p .flow) (q .flow) → a ≡ changed Applications (p .applications) (q .applications)
+      → (not s || ((g || w) || a)) ≡ not (same (frame p) (frame q))
+  frames-parts false g w a c eg ew ea = frames-control p q c refl
+  frames-parts true true w a c eg ew ea = differ p q (λ e. unlike-part Groups (p .groups) (q .groups) eg (part-groups e))
+  frames-parts true false true a c eg ew ea = differ p q (λ e. unlike-part Flow (p .flow) (q .flow) ew (part-flow e))
+  frames-parts true false false true c eg ew ea = differ p q (λ e. unlike-part Applications (p .applications) (q .applications) ea (part-applications e))
+  frames-parts true false false false c eg ew ea =
+      let control : controlValue (p .control) ≡ controlValue (q .control) = same-is _ _ (sym c) in
+      let h : frame p ≡ frame q = frame-of p q control (λ i. alike-part Groups (p .groups) (q .groups) eg i ++ (alike-part Flow (p .flow) (q .flow) ew i ++ alike-part Applications (p .applications) (q .applications) ea i)) in
+      rw h (ap not (sym (same-refl (frame q))))
+
+  pub asks-parts : running p ≡ true → running q ≡ true → {s g w a : Bool} → s ≡ same (controlValue (p .control)) (controlValue (q .control))
+      → g ≡ changed Groups (p .groups) (q .groups) → w ≡ changed Flow (p .flow) (q .flow) → a ≡ changed Applications (p .applications) (q .applications)
+      → (not s || ((g || w) || a)) ≡ asks p q
+  asks-parts h k {s} {g} {w} {a} c eg ew ea = asks-running p q (sym h) (sym k) refl refl (frames-parts s g w a c eg ew ea)
 
 -- ---- 01, Writing: "Longest frame 147 octets"
 

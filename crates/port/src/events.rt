@@ -1,8 +1,11 @@
 // The events of a port but frames: fresh states, the send rule, creation, flags, peer gone and setting changes.
 ghost use mathlib.Core.Path.{_≡_};
+ghost use mathlib.Core.Bool.{_&&_};
 ghost use Rattle.feature.specs.State.{fresh, stopped};
 ghost use Rattle.tlv.specs.declared.Refusal.the-variants.{InvalidSetting};
 ghost use Rattle.port.specs.Parts.{featureOf, withFeatures, three, flagOf, withFlag};
+ghost use Rattle.octets.specs.Words.{_is_};
+ghost use Rattle.port.specs.EventLaws.{counted};
 ghost use Rattle.port.specs.PortEvents.{unsynced, sent, freshControl, freshParts, freshPort, completed, noticed, becomes, raises, silent, refused, unchanged, flagNotice, restarts, flagSet, withFeature, withSetting, settingChanged, blankPort, started, event, flagged, peerGone, setTo, changedFeature, changedSetting, made, created};
 use crate::Answer;
 use crate::Control;
@@ -29,22 +32,29 @@ fn unsynced(x: State) -> bool
     s.advertise & !x.syncd
 }
 
-// The send rule (01, Port events).
+// The send rule (01, Port events) on the control: `waiting` says that an advertised feature waits for an acknowledgement.
+pub fn count(k: Control, waiting: bool) -> Control
+    ensures { λ r. ⌜ r ≡ counted (waiting && k .rcvd is k .seq) k ⌝ }
+{
+    if !waiting {
+        return k;
+    }
+    if k.rcvd != k.seq {
+        return k;
+    }
+    let mut next = k;
+    next.seq = std::num::wrapping_add_u32(k.seq, 1);
+    next
+}
+
+// The send rule.
 pub fn send(p: Port) -> Port
     ensures { λ r. ⌜ r ≡ sent p ⌝ }
 {
-    let c = p.control;
     let g = unsynced(p.groups);
     let w = unsynced(p.flow);
     let a = unsynced(p.applications);
-    if !(g | w | a) {
-        return p;
-    }
-    if c.rcvd != c.seq {
-        return p;
-    }
-    let mut control = c;
-    control.seq = std::num::wrapping_add_u32(c.seq, 1);
+    let control = count(p.control, g | w | a);
     let mut next = p;
     next.control = control;
     next
@@ -150,26 +160,33 @@ fn noticed(r: Reason) -> Raised
     }
 }
 
-fn becomes(before: State, after: State) -> Raised
-    ensures { λ x. ⌜ x ≡ becomes (before .outcome .reason) (after .outcome .reason) ⌝ }
+// The notice of a feature whose reason was one and is now another.
+pub fn becomes(why: Reason, now: Reason) -> Raised
+    ensures { λ x. ⌜ x ≡ becomes why now ⌝ }
 {
-    let o = before.outcome;
-    let p = after.outcome;
-    let why = o.reason;
-    let now = p.reason;
     if feature::reason_number(why) == feature::reason_number(now) {
         return Raised::Nothing;
     }
     noticed(now)
 }
 
+fn reason_of(x: State) -> Reason
+    ensures { λ r. ⌜ r ≡ x .outcome .reason ⌝ }
+{
+    let o = x.outcome;
+    o.reason
+}
+
 // What an event raises: a notice of the port, or none, and those of the features.
 pub fn raise(x: Raised, before: Port, after: Port) -> Notices
     ensures { λ r. ⌜ r ≡ raises x before after ⌝ }
 {
-    let g = becomes(before.groups, after.groups);
-    let w = becomes(before.flow, after.flow);
-    let a = becomes(before.applications, after.applications);
+    let g = becomes(reason_of(before.groups), reason_of(after.groups));
+    let w = becomes(reason_of(before.flow), reason_of(after.flow));
+    let a = becomes(
+        reason_of(before.applications),
+        reason_of(after.applications),
+    );
     Notices {
         port: x,
         groups: g,

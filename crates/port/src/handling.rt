@@ -1,183 +1,234 @@
-// Handling a frame (01, Handling a frame).
+// Handling a frame (01, Handling a frame). What is small is decided first; the next port is then made of it at once, since a port
+// is long to copy.
 ghost use mathlib.Core.Path.{_≡_};
+ghost use mathlib.Core.Bool.{true};
 ghost use Prim.Native.Nat.{_+_, _≤_};
 ghost use lib.ListN.{length};
 ghost use Rattle.tlv.specs.Layout.{valueOf};
 ghost use Rattle.tlv.specs.Promises.{Inside};
-ghost use Rattle.feature.specs.State.{acknowledged, received};
-ghost use Rattle.port.specs.Parts.{withControl};
-ghost use Rattle.port.specs.Handling.{message, twice, met, exchanged, once, steps1to4, markNotice, accepted, handled};
-ghost use Rattle.port.specs.HandlingLaws.{heardIn};
-use crate::Event;
+ghost use Rattle.feature.specs.TurnLaws.{changedBy, heldAfter};
+ghost use Rattle.port.specs.Parts.{running};
+ghost use Rattle.port.specs.PortEvents.{becomes, completed};
+ghost use Rattle.port.specs.Handling.{steps1to4};
+ghost use Rattle.port.specs.HandlingLaws.{Admits, afterIn, changeOf, duplicateNotice, heardOf, waitsBy};
+use crate::Control;
+use crate::Notices;
 use crate::Port;
 use crate::Raised;
 use feature::State;
+use feature::steps::Course;
+use feature::steps::Turn;
 use notices::Kind;
 use parameters::Feature;
+use parameters::Parameters;
 use tlv::Contents;
 use tlv::Found;
 use tlv::Frame;
 use tlv::Refusal;
 
-// What the control sub-TLV says.
-struct Heard {
-    oper: u8,
-    max: u8,
-    seq: u32,
-    ack: u32,
+// What a frame changes in a port, but for the parameters held of the peer.
+pub struct Change {
+    pub course: Course,
+    pub wish: bool,
+    pub control: Control,
+    pub groups: Turn,
+    pub flow: Turn,
+    pub applications: Turn,
+    pub notices: Notices,
 }
 
-fn hear(s: &[u8], c: Contents) -> Heard
-    requires { ⌜ Inside (now s) c ⌝ }
-    ensures { λ r. ⌜ heardIn (now (s .entry)) c r ≡ message (now (s .entry)) c ⌝ }
+// Reads a frame that arrived, if the port takes it.
+pub fn admit(p: Port, s: &[u8]) -> Frame
+    ensures { λ r. ⌜ Admits p (now (s .entry)) r ⌝ }
 {
-    let control = c.control;
-    let start = control.start;
-    let end = start + control.length;
-    let value = &s[start..end];
-    let oper = octets::octet(value, 0);
-    let max = octets::octet(value, 1);
-    let seq = octets::numbers::number4(value, 2);
-    let ack = octets::numbers::number4(value, 6);
-    Heard {
-        oper: oper,
-        max: max,
-        seq: seq,
-        ack: ack,
+    if !crate::writing::running(p) {
+        return Frame::Refused(Refusal::NotRunning);
     }
+    if p.several {
+        return Frame::Refused(Refusal::SeveralNeighbours);
+    }
+    tlv::read(s)
 }
 
-// Step 1: two or more controls.
-fn twice(p: Port) -> Port
-    ensures { λ r. ⌜ r ≡ twice p ⌝ }
-{
-    let mut control = p.control;
-    control.seen = true;
-    control.duplicate = true;
-    let g = feature::steps::control_twice(p.groups);
-    let w = feature::steps::control_twice(p.flow);
-    let a = feature::steps::control_twice(p.applications);
-    let mut next = crate::events::with_features(p, g, w, a);
-    next.control = control;
-    next
-}
-
-// Step 2, where the received Oper is another: the features and numbers are not handled.
-fn meet(p: Port, oper: u8) -> Port
-    ensures { λ r. ⌜ r ≡ withControl p (met oper (p .control)) ⌝ }
-{
-    let mut control = p.control;
-    control.oper = oper;
-    control.seen = true;
-    control.duplicate = false;
-    let mut next = p;
-    next.control = control;
-    next
-}
-
-// Steps 3 and 4 for one feature, whose sub-TLV's value is handed on as a part of the frame.
-fn receive(x: State, f: Feature, found: Found, s: &[u8], rcvd: u32, seq: u32) -> State
+// A sub-TLV's value, as a part of the frame.
+fn part(s: &[u8], found: Found) -> &[u8]
     requires { ⌜ found .start + found .length ≤ length (now s) ⌝ }
-    ensures { λ r. ⌜ r ≡ received f (record { count = found .count; value = valueOf (now (s .entry)) found }) (acknowledged rcvd seq x) ⌝ }
+    ensures { λ r. ⌜ now r ≡ valueOf (now (s .entry)) found ⌝ }
 {
     let start = found.start;
     let end = start + found.length;
-    let y = feature::steps::acknowledge(x, rcvd, seq);
-    feature::steps::receive(y, f, found.count, &s[start..end])
+    &s[start..end]
 }
 
-// Steps 3 and 4.
-fn exchange(p: Port, s: &[u8], c: Contents, h: Heard, oper: u8) -> Port
-    requires { ⌜ Inside (now s) c ⌝ }
-    ensures { λ r. ⌜ r ≡ exchanged oper (heardIn (now (s .entry)) c h) p ⌝ }
-{
-    let mut control = p.control;
-    let seq = control.seq;
-    let g = receive(p.groups, Feature::Groups, c.groups, s, h.ack, seq);
-    let w = receive(p.flow, Feature::Flow, c.flow, s, h.ack, seq);
-    let a = receive(
-        p.applications,
-        Feature::Applications,
-        c.applications,
-        s,
-        h.ack,
-        seq,
-    );
-    control.oper = oper;
-    control.ack = h.seq;
-    control.rcvd = h.ack;
-    control.seen = true;
-    control.duplicate = false;
-    let mut next = crate::events::with_features(p, g, w, a);
-    next.control = control;
-    next
+// The way that the frame takes, and the control after steps 1 to 3.
+struct Heard {
+    course: Course,
+    control: Control,
 }
 
-// Steps 2 to 4: one readable control.
-fn once(p: Port, s: &[u8], c: Contents) -> Port
+fn hear(s: &[u8], c: Contents, k: Control) -> Heard
     requires { ⌜ Inside (now s) c ⌝ }
-    ensures { λ r. ⌜ r ≡ once (message (now (s .entry)) c) p ⌝ }
+    ensures { λ r. ⌜ r ≡ heardOf (now (s .entry)) c k ⌝ }
 {
-    let h = hear(s, c);
-    let control = p.control;
-    let oper = feature::lower(control.max, h.max);
-    if h.oper != oper {
-        return meet(p, oper);
+    let found = c.control;
+    let mut next = k;
+    next.seen = true;
+    if 1 < found.count {
+        next.duplicate = true;
+        return Heard {
+            course: Course::Twice,
+            control: next,
+        };
     }
-    exchange(p, s, c, h, oper)
+    let value = part(s, found);
+    let oper = octets::octet(value, 0);
+    let low = feature::lower(k.max, octets::octet(value, 1));
+    next.oper = low;
+    next.duplicate = false;
+    if oper != low {
+        return Heard {
+            course: Course::OtherVersion,
+            control: next,
+        };
+    }
+    next.ack = octets::numbers::number4(value, 2);
+    next.rcvd = octets::numbers::number4(value, 6);
+    Heard {
+        course: Course::Exchange,
+        control: next,
+    }
 }
 
-fn steps_1_to_4(p: Port, s: &[u8], c: Contents) -> Port
-    requires { ⌜ Inside (now s) c ⌝ }
-    ensures { λ r. ⌜ r ≡ steps1to4 (now (s .entry)) c p ⌝ }
+// Steps 1 to 5 for one feature.
+fn turn_of(f: Feature, x: State, h: Heard, seq: u32, s: &[u8], found: Found) -> Turn
+    requires { ⌜ found .start + found .length ≤ length (now s) ⌝ }
+    ensures { λ r. ⌜ r ≡ afterIn f x h seq (now (s .entry)) found ⌝ }
 {
-    let control = c.control;
-    if 1 < control.count {
-        return twice(p);
+    let course = h.course;
+    let k = h.control;
+    feature::steps::handle(f, x, course, k.rcvd, seq, found.count, part(s, found))
+}
+
+// Whether the feature is advertised and waits for an acknowledgement.
+fn waits(x: State, t: Turn) -> bool
+    ensures { λ r. ⌜ r ≡ waitsBy x t ⌝ }
+{
+    let s = x.setting;
+    s.advertise & !t.syncd
+}
+
+// Whether the feature's sub-TLV changed.
+fn changes(x: State, t: Turn) -> bool
+    ensures { λ r. ⌜ r ≡ changedBy x t ⌝ }
+{
+    let s = x.setting;
+    let o = x.outcome;
+    let d = t.decision;
+    if !s.advertise {
+        return false;
     }
-    once(p, s, c)
+    if o.oper != d.oper {
+        return true;
+    }
+    o.error != d.error
 }
 
 // The notice for a duplicate control that was not marked before.
-fn mark_notice(before: Port, after: Port) -> Raised
-    ensures { λ r. ⌜ r ≡ markNotice before after ⌝ }
+fn duplicate_notice(before: bool, after: bool) -> Raised
+    ensures { λ r. ⌜ r ≡ duplicateNotice before after ⌝ }
 {
-    let b = before.control;
-    let a = after.control;
-    if b.duplicate {
+    if before {
         return Raised::Nothing;
     }
-    if a.duplicate {
+    if after {
         return Raised::Notice(Kind::DuplicateControl);
     }
     Raised::Nothing
 }
 
-fn accept(p: Port, s: &[u8], c: Contents) -> Event
-    requires { ⌜ Inside (now s) c ⌝ }
-    ensures { λ r. ⌜ r ≡ accepted (now (s .entry)) c p ⌝ }
+// The notice of a feature.
+fn notice(x: State, t: Turn) -> Raised
+    ensures { λ r. ⌜ r ≡ becomes (x .outcome .reason) (t .decision .reason) ⌝ }
 {
-    let next = crate::events::complete(p, steps_1_to_4(p, s, c));
-    crate::events::conclude(mark_notice(p, next), p, next)
+    let o = x.outcome;
+    let d = t.decision;
+    let why = o.reason;
+    let now = d.reason;
+    crate::events::becomes(why, now)
 }
 
-// Handles a frame that arrived. A refused frame changes nothing.
-pub fn handle(p: Port, s: &[u8]) -> Event
-    ensures { λ r. ⌜ r ≡ handled p (now (s .entry)) ⌝ }
+// Decides what a frame that is accepted changes.
+pub fn decide(p: Port, s: &[u8], c: Contents) -> Change
+    requires { ⌜ Inside (now s) c × (running p ≡ true) ⌝ }
+    ensures { λ r. ⌜ r ≡ changeOf (now (s .entry)) c p ⌝ }
 {
-    if !crate::writing::running(p) {
-        return crate::events::refuse(Refusal::NotRunning, p);
+    let old = p.control;
+    let h = hear(s, c, old);
+    let course = h.course;
+    let g = turn_of(Feature::Groups, p.groups, h, old.seq, s, c.groups);
+    let w = turn_of(Feature::Flow, p.flow, h, old.seq, s, c.flow);
+    let a = turn_of(
+        Feature::Applications,
+        p.applications,
+        h,
+        old.seq,
+        s,
+        c.applications,
+    );
+    let waiting = waits(p.groups, g) | waits(p.flow, w) | waits(p.applications, a);
+    let control = crate::events::count(h.control, waiting);
+    let same = crate::writing::same_control(old, control);
+    let changed = changes(p.groups, g) | changes(p.flow, w) | changes(p.applications, a);
+    let x = duplicate_notice(old.duplicate, control.duplicate);
+    let y = notice(p.groups, g);
+    let z = notice(p.flow, w);
+    let v = notice(p.applications, a);
+    Change {
+        course: course,
+        wish: !same | changed,
+        control: control,
+        groups: g,
+        flow: w,
+        applications: a,
+        notices: Notices {
+            port: x,
+            groups: y,
+            flow: z,
+            applications: v,
+        },
     }
-    if p.several {
-        return crate::events::refuse(Refusal::SeveralNeighbours, p);
-    }
-    let frame = tlv::read(s);
-    match frame {
-        Frame::Refused(why) => {
-            return crate::events::refuse(why, p);
-        }
-        Frame::Accepted(c) => {
-            return accept(p, s, c);
-        }
-    }
+}
+
+// The parameters that are held of the peer after a frame.
+fn held(f: Feature, x: State, course: Course, t: Turn, s: &[u8], found: Found) -> Parameters
+    requires { ⌜ found .start + found .length ≤ length (now s) ⌝ }
+    ensures { λ r. ⌜ r ≡ heldAfter course f (valueOf (now (s .entry)) found) (t .decision .held) x ⌝ }
+{
+    let d = t.decision;
+    feature::steps::held_after(f, x, course, d.held, part(s, found))
+}
+
+// The port after a frame that is accepted, by what the frame changes.
+pub fn apply(p: Port, k: Change, s: &[u8], c: Contents) -> Port
+    requires { ⌜ Inside (now s) c × (k ≡ changeOf (now s) c p) ⌝ }
+    ensures { λ r. ⌜ r ≡ completed p (steps1to4 (now (s .entry)) c p) ⌝ }
+{
+    let course = k.course;
+    let control = k.control;
+    let x = held(Feature::Groups, p.groups, course, k.groups, s, c.groups);
+    let y = held(Feature::Flow, p.flow, course, k.flow, s, c.flow);
+    let z = held(
+        Feature::Applications,
+        p.applications,
+        course,
+        k.applications,
+        s,
+        c.applications,
+    );
+    let mut next = p;
+    next.control = control;
+    next.groups = feature::steps::renew(p.groups, k.groups, x);
+    next.flow = feature::steps::renew(p.flow, k.flow, y);
+    next.applications = feature::steps::renew(p.applications, k.applications, z);
+    next
 }

@@ -107,7 +107,7 @@ pub fn write(p: Port, out: &mut [u8]) -> Written
 }
 
 // Whether two controls are written alike.
-fn same_control(a: Control, b: Control) -> bool
+pub fn same_control(a: Control, b: Control) -> bool
     ensures { λ r. ⌜ r ≡ same (controlValue a) (controlValue b) ⌝ }
 {
     if a.oper != b.oper {

@@ -116,8 +116,7 @@ fn applications(out: &mut [u8], at: usize, p: &[u8]) -> usize {
 
 // The configuration in words.
 fn configuration(out: &mut [u8], at: usize, f: Feature, p: Parameters) -> usize {
-    let o = p.octets;
-    let c = octets::first(&o, p.length);
+    let c = octets::first(&p.octets, octets::wide(p.length));
     match f {
         Feature::Groups => groups(out, at, c),
         Feature::Flow => flow(out, at, c),
@@ -136,11 +135,10 @@ fn outcome(out: &mut [u8], at: usize, o: Outcome) -> usize {
 // `NAME FEATURE version V mode M error E reason R: CONFIGURATION`
 pub fn feature_line(out: &mut [u8], at: usize, name: &[u8], f: Feature, x: State) -> usize {
     let o = x.outcome;
-    let inforce = o.configuration;
     let a = crate::text(out, at, name);
     let b = states::feature_name(out, a, f);
     let c = outcome(out, b, o);
     let d = crate::text(out, c, b": ");
-    let e = configuration(out, d, f, inforce);
+    let e = configuration(out, d, f, feature::configuration(x));
     crate::text(out, e, b"\n")
 }

@@ -239,10 +239,10 @@ unfolding eventLine
 event-long s g k = k ∙ simp (lt-ltb 1100 (length s) g)
 
 module _ (s : List ℕ) {b : Bool} where
-  pub frame-line : {h o : List ℕ} {n : ℕ} → length s ≤ 1100 → b ≡ isFrame s → b ≡ true → h ≡ drop 2 s → n ≡ length (octetsOf h) → o ≡ filled (octetsOf h)
+  pub frame-line : {o : List ℕ} {n : ℕ} → length s ≤ 1100 → b ≡ isFrame s → b ≡ true → n ≡ length (octetsOf (drop 2 s)) → o ≡ filled (octetsOf (drop 2 s))
       → record { kind = Kind.Frame; n = n; octets = o } ≡ eventLine s
   unfolding eventLine lineOf
-  frame-line g e t d m k = simp (le-ltb 1100 (length s) g, sym e ∙ t, m, k, d)
+  frame-line g e t m k = simp (le-ltb 1100 (length s) g, sym e ∙ t, m, k)
 
   pub event-line : {w more : List ℕ} {k : Keyword} {l : Line} → length s ≤ 1100 → b ≡ isFrame s → b ≡ false → w ≡ firstWord s → k ≡ keyword w → more ≡ rest s
       → l ≡ eventOf k (words more) → l ≡ eventLine s

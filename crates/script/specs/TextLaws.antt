@@ -2,14 +2,14 @@
 use Prim.Native.Nat.{ℕ, zero, suc, _+_, _-_, _*_, _/_, _%_, _≤_, _<_, min}
 use native.Mathlib.Omega.{arith}
 use native.Mathlib.Numerals.{add-one}
-use native.Mathlib.Nat.{add-zero, zero-add}
+use native.Mathlib.Nat.{add-zero, zero-add, add-mul-mod-self-right}
 use mathlib.Core.Path.{_≡_, refl, sym, ap, _∙_}
 use mathlib.Core.Bool.{Bool, true, false, not, _&&_, Bool·beq}
 use mathlib.Core.List.{List, [], _∷_, _++_}
 use lib.Dec.{leb, eqb}
-use lib.ListN.{length, take, drop, set, replicate, drop-of-length-le}
-use lib.Seq.{drop-cons, set-at, append-snoc}
-use borrow.Author.Tests.{lt-ltb, le-ltb, le-leb, lt-leb, eq-eqb, ne-eqb, leb-true, not-true, not-false}
+use lib.ListN.{length, take, drop, set, replicate, drop-of-length-le, length-set, length-replicate}
+use lib.Seq.{drop-cons, set-at, append-snoc, getD-set-same, getD-set-other}
+use borrow.Author.Tests.{le-ltb, le-leb, lt-leb, eq-eqb, ne-eqb, leb-true, eqb-true, eqb-false, not-true, not-false}
 use Rattle.octets.specs.Words.{if_then_else_, _below_, _atmost_, _is_}
 use Rattle.octets.specs.Octets.{at}
 use Rattle.octets.specs.Laws.{and-left, and-right}
@@ -17,7 +17,7 @@ use Rattle.script.specs.declared.text.Number.{Number}
 use Rattle.script.specs.declared.text.Number.the-variants.{Is, Not}
 use Rattle.script.specs.Text.{isDigit, decimalDigits, decimalFrom, decimal, isNumber, number, nibble, hexDigits, isOctets, pairAt, listed, octetsOf}
 use Rattle.script.specs.Lines.{filled}
-use Rattle.script.specs.Steps.{run}
+use Rattle.script.specs.Steps.{run, Nibbles}
 
 -- ---- digits
 
@@ -157,26 +157,31 @@ module _ (c : ℕ) {b : Bool} where
   pub nibble-fits : b ≡ isDigit c → b ≡ true → 48 ≤ c
   nibble-fits e t = digit-least c (sym e ∙ t)
 
-pub record Hexing (w : List ℕ) (i : ℕ) : Type 0 where
+-- the first i digits are good or not, and the rest decides with them
+pub record Hexing (w : List ℕ) (good : Bool) (i : ℕ) : Type 0 where
   pub within : i ≤ length w
-  pub same : hexDigits (drop i w) ≡ hexDigits w
+  pub same : (good && hexDigits (drop i w)) ≡ hexDigits w
 
-pub hexing-start : (w : List ℕ) → Hexing w 0
+pub hexing-start : (w : List ℕ) → Hexing w true 0
 hexing-start w = record { within = omega arith; same = refl }
 
-module _ {w : List ℕ} {i : ℕ} where
-  pub hexing-not : {x : ℕ} → Hexing w i → i < length w → x ≡ nibble (at w i) → 16 ≤ x → false ≡ hexDigits w
-  unfolding hexDigits
-  hexing-not {x} r h e t = rw (drop-cons w i 0 h, le-ltb (nibble (at w i)) 16 (omega arith)) at (r .same)
+and-twice : (a b c : Bool) → (a && b && c) ≡ (a && (b && c))
+and-twice true b c = refl
+and-twice false b c = refl
 
-  pub hexing-on : {x : ℕ} → Hexing w i → i < length w → x ≡ nibble (at w i) → x < 16 → Hexing w (i + 1)
-  unfolding hexDigits
-  hexing-on {x} r h e t =
-      record { within = omega arith; same = rw add-one (rw (drop-cons w i 0 h, lt-ltb (nibble (at w i)) 16 (omega arith)) at (r .same)) }
+and-true : (a : Bool) → (a && true) ≡ a
+and-true true = refl
+and-true false = refl
 
-  pub hexing-end : Hexing w i → length w ≤ i → true ≡ hexDigits w
+module _ {w : List ℕ} {good : Bool} {i : ℕ} where
+  pub hexing-on : {x : ℕ} → Hexing w good i → i < length w → x ≡ nibble (at w i) → Hexing w (good && x below 16) (i + 1)
   unfolding hexDigits
-  hexing-end r h = rw (drop-of-length-le w h) at (r .same)
+  hexing-on {x} r h e =
+      record { within = omega arith; same = rw (add-one, and-twice, e) (rw (drop-cons w i 0 h) at (r .same)) }
+
+  pub hexing-end : Hexing w good i → length w ≤ i → good ≡ hexDigits w
+  unfolding hexDigits
+  hexing-end r h = sym (and-true good) ∙ rw (drop-of-length-le w h) at (r .same)
 
 module _ (w : List ℕ) (most : ℕ) where
   pub octets-odd : (length w % 2 ≡ 0 → ⊥) → false ≡ isOctets most w
@@ -239,3 +244,48 @@ module _ {f : ℕ → ℕ} {n : ℕ} {out : List ℕ} {i : ℕ} where
 pub octets-end : (w : List ℕ) {n : ℕ} {out : List ℕ} {i : ℕ} → Listing (pairAt w) n out i → n ≤ i → n ≡ min (length w / 2) 513 → out ≡ filled (octetsOf w)
 unfolding octetsOf
 octets-end w r h e = rw e at (listing-end r h)
+
+-- ---- the values of hex digits, of which the first i stand in v
+
+pub record Valuing (w v : List ℕ) (n i : ℕ) : Type 0 where
+  pub within : i ≤ n
+  pub all : n ≡ 2 * min (length w / 2) 513
+  pub long : length v ≡ 1026
+  pub value : (k : ℕ) → k < i → at v k ≡ nibble (at w k) % 16
+
+pub valuing-start : (w : List ℕ) {n m : ℕ} → m ≡ min (length w / 2) 513 → n ≡ 2 * m → Valuing w (replicate 1026 0) n 0
+valuing-start w e h =
+    record {
+      within = omega arith;
+      all = rw e at h;
+      long = length-replicate {A = ℕ} 1026 0;
+      value = λ k l. absurd (omega arith);
+    }
+
+module _ {w v : List ℕ} {n i : ℕ} where
+  pub valuing-more : {x : ℕ} → Valuing w v n i → i < n → x ≡ nibble (at w i) → Valuing w (set v i (x % 16)) n (i + 1)
+  valuing-more {x} r h e =
+      record {
+        within = omega arith;
+        all = r .all;
+        long = length-set v i (x % 16) ∙ r .long;
+        value = λ k l. here k l (eqb k i) refl;
+      }
+    where
+      here : (k : ℕ) → k < i + 1 → (b : Bool) → eqb k i ≡ b → at (set v i (x % 16)) k ≡ nibble (at w k) % 16
+      here k l true q = rw (eqb-true k i q, getD-set-same v i (x % 16) 0 (omega (arith, r .long, r .all)), e)
+      here k l false q = getD-set-other v i k (x % 16) 0 (eqb-false k i q) ∙ r .value k (omega (arith, eqb-false k i q))
+
+  pub valuing-end : Valuing w v n i → n ≤ i → Nibbles w v
+  valuing-end r h = record { value = λ k l. r .value k (omega (arith, r .all)) }
+
+-- a product with 4097 moves the high value beside the low one
+pub joined-is : {high low x y : ℕ} → y ≡ low → x ≡ high → x < 256 → (y * 256 + x) * 4097 / 256 % 256 ≡ (high * 16 + low) % 256
+joined-is {high} {low} {x} {y} e g h =
+    let q : (y * 256 + x) * 4097 / 256 ≡ high * 16 + low + low * 16 * 256 = omega arith in
+    rw q (add-mul-mod-self-right (high * 16 + low) (low * 16) 256)
+
+-- one octet more
+pub joining : {w v : List ℕ} {i n x : ℕ} → Nibbles w v → i < n → n ≡ min (length w / 2) 513 → x ≡ (at v (2 * i) * 16 + at v (2 * i + 1)) % 256 → x ≡ pairAt w i
+unfolding pairAt
+joining {w} {v} {i} r h m e = e ∙ rw (r .value (2 * i) (omega arith), r .value (2 * i + 1) (omega arith)) (omega arith)

@@ -1,8 +1,9 @@
 // Lines of text: settings and events, as docs/FORMATS.md fixes them.
 ghost use mathlib.Core.Path.{_≡_};
+ghost use lib.ListN.{length, drop};
 ghost use Rattle.octets.specs.Octets.{same};
-ghost use Rattle.script.specs.Text.{words, first};
-ghost use Rattle.script.specs.Lines.{passedOver, bare, settingKind, feature, plain, control, partName, settingOf, settingLine, keyword, flagWord, alone, flag, write, formOf, changeOf, eventOf, isFrame, eventLine};
+ghost use Rattle.script.specs.Text.{words, first, octetsOf};
+ghost use Rattle.script.specs.Lines.{passedOver, filled, bare, settingKind, feature, plain, control, partName, settingOf, settingLine, keyword, flagWord, alone, flag, write, formOf, changeOf, eventOf, isFrame, eventLine};
 use forms::Field;
 use forms::Form;
 use text::Number;
@@ -310,13 +311,27 @@ fn event_of(k: Keyword, s: &[u8]) -> Line
 }
 
 // Whether a line is a capture's, of an arriving frame.
-fn is_frame(s: &[u8]) -> bool
+pub fn is_frame(s: &[u8]) -> bool
     ensures { λ r. ⌜ r ≡ isFrame (now (s .entry)) ⌝ }
 {
     if !octets::same_octets(octets::first(s, 2), b"B ") {
         return false;
     }
     text::is_octets(octets::from(s, 2), 513)
+}
+
+// How many octets the frame of a line has.
+pub fn frame_length(line: &[u8]) -> usize
+    ensures { λ r. ⌜ r ≡ length (octetsOf (drop 2 (now (line .entry)))) ⌝ }
+{
+    text::octets_count(octets::from(line, 2))
+}
+
+// The octets of the frame of a line, zero past them.
+pub fn frame_octets(line: &[u8]) -> [u8; 513]
+    ensures { λ r. ⌜ r ≡ filled (octetsOf (drop 2 (now (line .entry)))) ⌝ }
+{
+    text::octets_of(octets::from(line, 2))
 }
 
 // An event of `desk` (docs/FORMATS.md, Events).
@@ -327,9 +342,8 @@ pub fn parse_event(line: &[u8]) -> Line
         return bare(Kind::Unreadable);
     }
     if is_frame(line) {
-        let hex = octets::from(line, 2);
-        let n = text::octets_count(hex);
-        let octets = text::octets_of(hex);
+        let n = frame_length(line);
+        let octets = frame_octets(line);
         return Line {
             kind: Kind::Frame,
             n: n,

@@ -1,9 +1,9 @@
 // Words, numbers and octets of a line.
 ghost use mathlib.Core.Path.{_≡_};
-ghost use Prim.Native.Nat.{_/_, _<_, min};
+ghost use Prim.Native.Nat.{_+_, _*_, _/_, _%_, _<_, min};
 ghost use lib.ListN.{length};
 ghost use Rattle.script.specs.Text.{isDigit, number, nibble, hexDigits, pairAt, octetsOf, isOctets};
-ghost use Rattle.script.specs.Steps.{run, firstWord, rest};
+ghost use Rattle.script.specs.Steps.{run, firstWord, rest, Nibbles};
 ghost use Rattle.script.specs.Lines.{filled};
 
 const SPACE: u8 = 32;
@@ -97,18 +97,17 @@ fn nibble(c: u8) -> u8
     c - 87
 }
 
-// Whether all are hex digits.
+// Whether all are hex digits. The loop has one way through, so that it is compiled to many digits at a time.
 pub fn hex_digits(w: &[u8]) -> bool
     ensures { λ r. ⌜ r ≡ hexDigits (now (w .entry)) ⌝ }
 {
+    let mut good = true;
     let mut i: usize = 0;
     while i < w.len() {
-        if 16 <= nibble(w[i]) {
-            return false;
-        }
+        good = good & (nibble(w[i]) < 16);
         i += 1;
     }
-    true
+    good
 }
 
 // Octet `i` of a run of pairs of hex digits.
@@ -143,15 +142,38 @@ pub fn octets_count(w: &[u8]) -> usize
     if n < 513 { n } else { 513 }
 }
 
+// The value of each of the digits that a line can hold.
+fn nibbles(w: &[u8]) -> [u8; 1026]
+    ensures { λ r. ⌜ Nibbles (now (w .entry)) r ⌝ }
+{
+    let n = 2 * octets_count(w);
+    let mut out = [0; 1026];
+    let mut i: usize = 0;
+    while i < n {
+        out[i] = nibble(w[i]) % 16;
+        i += 1;
+    }
+    out
+}
+
+// Two values as one octet, by a product that moves the high one beside the low: so many pairs are compiled to one step.
+fn joined(high: u8, low: u8) -> u8
+    ensures { λ r. ⌜ r ≡ (high * 16 + low) % 256 ⌝ }
+{
+    let both = octets::wide(low) * 256 + octets::wide(high);
+    (both * 4097 / 256 % 256) as u8
+}
+
 // The octets that pairs of hex digits spell.
 pub fn octets_of(w: &[u8]) -> [u8; 513]
     ensures { λ r. ⌜ r ≡ filled (octetsOf (now (w .entry))) ⌝ }
 {
     let n = octets_count(w);
+    let v = nibbles(w);
     let mut out = [0; 513];
     let mut i: usize = 0;
     while i < n {
-        out[i] = pair_at(w, i);
+        out[i] = joined(v[2 * i], v[2 * i + 1]);
         i += 1;
     }
     out

@@ -1,6 +1,5 @@
 // Work to be timed. Frames of one size stand one behind the other; each is read or handled in turn, so many times in all.
 use crate::steps;
-use card::Card;
 use port::Answer;
 use port::Written;
 use tlv::Found;
@@ -104,26 +103,13 @@ pub extern "C" fn trial_handle_many(
     sum
 }
 
-fn with_ack(c: Card, ack: u32) -> Card {
-    let mut port = c.port;
-    let mut control = port.control;
-    control.ack = ack;
-    port.control = control;
-    let mut next = c;
-    next.port = port;
-    next
-}
-
-// Each write at another AckNo.
 #[no_mangle]
-pub extern "C" fn trial_write_many(creation: &[u8], times: u32, out: &mut [u8]) -> u64 {
+pub extern "C" fn trial_write_many(creation: &[u8], times: usize, out: &mut [u8]) -> u64 {
     let made = steps::create(creation);
-    let mut card = made.card;
     let mut sum: u64 = 0;
     let mut left = times;
     while 0 < left {
-        card = with_ack(card, left);
-        let w = card::write(card, out);
+        let w = card::write(made.card, out);
         sum = std::num::wrapping_add_u64(sum, wrote(w, out));
         left -= 1;
     }

@@ -15,7 +15,7 @@ mod foreign {
         pub fn trial_write_many(
             creation: *const u8,
             creation_length: usize,
-            times: u32,
+            times: usize,
             out: *mut u8,
             room: usize,
         ) -> u64;
@@ -53,7 +53,7 @@ pub fn handle_many(creation: &[u8], frames: &[u8], size: usize, times: usize) ->
 }
 
 /// Writes the frame of a creation step's card, each time at another AckNo.
-pub fn write_many(creation: &[u8], times: u32, out: &mut [u8]) -> u64 {
+pub fn write_many(creation: &[u8], times: usize, out: &mut [u8]) -> u64 {
     // SAFETY: as above.
     unsafe {
         foreign::trial_write_many(

@@ -13,6 +13,9 @@ Inv-loop s i₀ i = i ≤ length s
 abbrev μ-loop : tie.MeasureT-loop
 μ-loop s i₀ i = length s - i
 
+passed-requires : tie.Need-passed-requires Inv-loop μ-loop
+passed-requires c κs = search needs
+
 loop-holds : tie.Need-loop-holds Inv-loop μ-loop
 loop-holds c = search needs
 
@@ -40,6 +43,7 @@ line-length-spec =
     (tie.spec
     Inv-loop
     μ-loop
+    passed-requires
     loop-holds
     shared-slice-read-if1
     returns

@@ -55,11 +55,8 @@ without-peer-requires-6 c κs = search needs
 returns-6 : tie.Need-returns-6
 returns-6 c = search outcome-invalid
 
-held-peer-requires : tie.Need-held-peer-requires
-held-peer-requires c κs = search needs
-
-settle-requires : tie.Need-settle-requires
-settle-requires c κs = search needs
+settle-value-requires : tie.Need-settle-value-requires
+settle-value-requires c κs = search needs
 
 returns-7 : tie.Need-returns-7
 returns-7 c = search outcome-settled
@@ -85,6 +82,5 @@ decide-spec =
     valid-requires
     without-peer-requires-6
     returns-6
-    held-peer-requires
-    settle-requires
+    settle-value-requires
     returns-7)

@@ -16,17 +16,14 @@ with-peer-requires-2 c κs = search needs
 returns-2 : tie.Need-returns-2
 returns-2 c = search settled-peer-off
 
-unwilling-requires : tie.Need-unwilling-requires
-unwilling-requires c κs = search needs
-
 with-peer-requires-3 : tie.Need-with-peer-requires-3
 with-peer-requires-3 c κs = search needs
 
 returns-3 : tie.Need-returns-3
 returns-3 c = search settled-differ
 
-fit-requires : tie.Need-fit-requires
-fit-requires c κs = search needs
+compatible-requires : tie.Need-compatible-requires
+compatible-requires c κs = search needs
 
 with-peer-requires-4 : tie.Need-with-peer-requires-4
 with-peer-requires-4 c κs = search needs
@@ -48,10 +45,9 @@ settle-spec =
     returns
     with-peer-requires-2
     returns-2
-    unwilling-requires
     with-peer-requires-3
     returns-3
-    fit-requires
+    compatible-requires
     with-peer-requires-4
     returns-4
     with-peer-requires-5

@@ -35,6 +35,9 @@ loop-less c = search needs
 loop-again : tie.Need-loop-again Inv-loop μ-loop
 loop-again c = search holding-more
 
+cast-t13 : tie.Need-cast-t13 Inv-loop μ-loop
+cast-t13 c = search needs
+
 returns : tie.Need-returns Inv-loop μ-loop
 returns c = search holding-end
 
@@ -52,4 +55,5 @@ hold-spec =
     add-i
     loop-less
     loop-again
+    cast-t13
     returns)

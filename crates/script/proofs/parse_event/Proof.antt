@@ -13,14 +13,11 @@ returns c = search event-long
 is-frame-requires : tie.Need-is-frame-requires
 is-frame-requires c κs = search needs
 
-from-requires : tie.Need-from-requires
-from-requires c κs = search needs
+frame-length-requires : tie.Need-frame-length-requires
+frame-length-requires c κs = search needs
 
-octets-count-requires : tie.Need-octets-count-requires
-octets-count-requires c κs = search needs
-
-octets-of-requires : tie.Need-octets-of-requires
-octets-of-requires c κs = search needs
+frame-octets-requires : tie.Need-frame-octets-requires
+frame-octets-requires c κs = search needs
 
 returns-2 : tie.Need-returns-2
 returns-2 c = search frame-line
@@ -47,9 +44,8 @@ parse-event-spec =
     bare-requires
     returns
     is-frame-requires
-    from-requires
-    octets-count-requires
-    octets-of-requires
+    frame-length-requires
+    frame-octets-requires
     returns-2
     word-requires
     keyword-of-requires

@@ -84,12 +84,10 @@ fn handle_many(settings: &OwnedSettings, frames: &[u8], size: usize, times: usiz
 }
 
 #[inline(never)]
-fn write_many(settings: &OwnedSettings, times: u32, out: &mut [u8]) -> u64 {
-    let mut card = Card::create(&settings.lend()).expect("valid settings");
-    (1..=times).rev().fold(0, |sum: u64, ackno| {
-        let seqno = card.control().seqno;
-        card.set_numbers(seqno, ackno, 0, [1; 3]);
-        let told = match card.write(out) {
+fn write_many(settings: &OwnedSettings, times: usize, out: &mut [u8]) -> u64 {
+    let card = Card::create(&settings.lend()).expect("valid settings");
+    (0..times).fold(0, |sum: u64, _| {
+        let told = match black_box(&card).write(out) {
             Ok(_) => out[17].into(),
             Err(number) => number.into(),
         };
@@ -154,8 +152,8 @@ fn engines() {
         let (mut ours, mut theirs) = ([0; LONGEST_FRAME], [0; LONGEST_FRAME]);
         compare(
             &format!("write, {name}"),
-            || engine::write_many(&creation, TIMES as u32, &mut ours),
-            || write_many(&settings, TIMES as u32, black_box(&mut theirs)),
+            || engine::write_many(&creation, TIMES, &mut ours),
+            || write_many(&settings, TIMES, black_box(&mut theirs)),
         );
         assert_eq!(ours, theirs);
     }

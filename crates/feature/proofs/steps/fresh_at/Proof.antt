@@ -7,14 +7,36 @@ use Rattle.feature.proofs.steps.fresh_at.Tie as tie
 without-peer-requires : tie.Need-without-peer-requires
 without-peer-requires c κs = search needs
 
+none-requires : tie.Need-none-requires
+none-requires c κs = search needs
+
+outcome-of-requires : tie.Need-outcome-of-requires
+outcome-of-requires c κs = search needs
+
 returns : tie.Need-returns
 returns c = search fresh-advertised
 
-no-peer-requires : tie.Need-no-peer-requires
-no-peer-requires c κs = search needs
+without-peer-requires-2 : tie.Need-without-peer-requires-2
+without-peer-requires-2 c κs = search needs
+
+none-requires-2 : tie.Need-none-requires-2
+none-requires-2 c κs = search needs
+
+outcome-of-requires-2 : tie.Need-outcome-of-requires-2
+outcome-of-requires-2 c κs = search needs
 
 returns-2 : tie.Need-returns-2
 returns-2 c = search fresh-withheld
 
 pub fresh-at-spec : {M : Type 1} → statement M
-fresh-at-spec = tie.close (tie.spec without-peer-requires returns no-peer-requires returns-2)
+fresh-at-spec =
+    tie.close
+    (tie.spec
+    without-peer-requires
+    none-requires
+    outcome-of-requires
+    returns
+    without-peer-requires-2
+    none-requires-2
+    outcome-of-requires-2
+    returns-2)

@@ -1,17 +1,28 @@
 -- `feature::steps::receive` meets its contract. Assumes nothing.
-use Rattle.feature.specs.StateLaws.{received-withheld, received-advertised}
+use Rattle.feature.specs.TurnLaws.{receive-withheld, receive-advertised}
 use borrow.Author.Needs.{needs}
 use Rattle.feature.proofs.steps.receive.Statement.{statement}
 use Rattle.feature.proofs.steps.receive.Tie as tie
 
+acknowledged-requires : tie.Need-acknowledged-requires
+acknowledged-requires c κs = search needs
+
+kept-requires : tie.Need-kept-requires
+kept-requires c κs = search needs
+
 returns : tie.Need-returns
-returns c = search received-withheld
+returns c = search receive-withheld
 
 decide-requires : tie.Need-decide-requires
 decide-requires c κs = search needs
 
+weigh-requires : tie.Need-weigh-requires
+weigh-requires c κs = search needs
+
 returns-2 : tie.Need-returns-2
-returns-2 c = search received-advertised
+returns-2 c = search receive-advertised
 
 pub receive-spec : {M : Type 1} → statement M
-receive-spec = tie.close (tie.spec returns decide-requires returns-2)
+receive-spec =
+    tie.close
+    (tie.spec acknowledged-requires kept-requires returns decide-requires weigh-requires returns-2)

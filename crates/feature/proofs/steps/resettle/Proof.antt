@@ -7,8 +7,8 @@ use Rattle.feature.proofs.steps.resettle.Tie as tie
 returns : tie.Need-returns
 returns c = search resettled-withheld
 
-settle-requires : tie.Need-settle-requires
-settle-requires c κs = search needs
+settle-again-requires : tie.Need-settle-again-requires
+settle-again-requires c κs = search needs
 
 returns-2 : tie.Need-returns-2
 returns-2 c = search resettled-held
@@ -17,4 +17,4 @@ returns-3 : tie.Need-returns-3
 returns-3 c = search resettled-alone
 
 pub resettle-spec : {M : Type 1} → statement M
-resettle-spec = tie.close (tie.spec returns settle-requires returns-2 returns-3)
+resettle-spec = tie.close (tie.spec returns settle-again-requires returns-2 returns-3)

@@ -1,20 +1,14 @@
 -- `port::handling::hear` meets its contract. Assumes nothing.
-use Rattle.port.specs.HandlingLaws.{hear-is}
+use Rattle.port.specs.HandlingLaws.{hear-twice, hear-other, hear-exchange}
 use borrow.Author.Needs.{needs}
 use Rattle.port.proofs.handling.hear.Statement.{statement}
 use Rattle.port.proofs.handling.hear.Tie as tie
 
-add-end : tie.Need-add-end
-add-end c = search needs
+returns : tie.Need-returns
+returns c = search hear-twice
 
-sub-value : tie.Need-sub-value
-sub-value c = search needs
-
-part-value-start : tie.Need-part-value-start
-part-value-start c = search needs
-
-part-value-end : tie.Need-part-value-end
-part-value-end c = search needs
+part-requires : tie.Need-part-requires
+part-requires c κs = search needs
 
 octet-requires : tie.Need-octet-requires
 octet-requires c κs = search needs
@@ -22,25 +16,31 @@ octet-requires c κs = search needs
 octet-requires-2 : tie.Need-octet-requires-2
 octet-requires-2 c κs = search needs
 
+lower-requires : tie.Need-lower-requires
+lower-requires c κs = search needs
+
+returns-2 : tie.Need-returns-2
+returns-2 c = search hear-other
+
 number4-requires : tie.Need-number4-requires
 number4-requires c κs = search needs
 
 number4-requires-2 : tie.Need-number4-requires-2
 number4-requires-2 c κs = search needs
 
-returns : tie.Need-returns
-returns c = search hear-is
+returns-3 : tie.Need-returns-3
+returns-3 c = search hear-exchange
 
 pub hear-spec : {M : Type 1} → statement M
 hear-spec =
     tie.close
     (tie.spec
-    add-end
-    sub-value
-    part-value-start
-    part-value-end
+    returns
+    part-requires
     octet-requires
     octet-requires-2
+    lower-requires
+    returns-2
     number4-requires
     number4-requires-2
-    returns)
+    returns-3)

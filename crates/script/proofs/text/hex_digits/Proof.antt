@@ -1,16 +1,16 @@
--- `hex_digits` meets its contract: the first i octets are hex digits, and the rest decides. Assumes nothing.
+-- `hex_digits` meets its contract: the first i octets are hex digits or not, and the rest decides with them. Assumes nothing.
 use Prim.Native.Nat.{_-_}
 use lib.ListN.{length}
 use borrow.Author.Needs.{needs}
-use Rattle.script.specs.TextLaws.{Hexing, hexing-start, hexing-not, hexing-on, hexing-end}
+use Rattle.script.specs.TextLaws.{Hexing, hexing-start, hexing-on, hexing-end}
 use Rattle.script.proofs.text.hex_digits.Statement.{statement}
 use Rattle.script.proofs.text.hex_digits.Tie as tie
 
 abbrev Inv-loop : tie.InvT-loop
-Inv-loop w i₀ i = Hexing w i
+Inv-loop w good₀ i₀ good i = Hexing w good i
 
 abbrev μ-loop : tie.MeasureT-loop
-μ-loop w i₀ i = length w - i
+μ-loop w good₀ i₀ good i = length w - i
 
 loop-holds : tie.Need-loop-holds Inv-loop μ-loop
 loop-holds c = search hexing-start
@@ -21,9 +21,6 @@ shared-slice-read-nibble c = search needs
 nibble-requires : tie.Need-nibble-requires Inv-loop μ-loop
 nibble-requires c κs = search needs
 
-returns : tie.Need-returns Inv-loop μ-loop
-returns c = search hexing-not
-
 add-i : tie.Need-add-i Inv-loop μ-loop
 add-i c = search needs
 
@@ -33,8 +30,8 @@ loop-less c = search needs
 loop-again : tie.Need-loop-again Inv-loop μ-loop
 loop-again c = search hexing-on
 
-returns-2 : tie.Need-returns-2 Inv-loop μ-loop
-returns-2 c = search hexing-end
+returns : tie.Need-returns Inv-loop μ-loop
+returns c = search hexing-end
 
 pub hex-digits-spec : {M : Type 1} → statement M
 hex-digits-spec =
@@ -45,8 +42,7 @@ hex-digits-spec =
     loop-holds
     shared-slice-read-nibble
     nibble-requires
-    returns
     add-i
     loop-less
     loop-again
-    returns-2)
+    returns)

@@ -3,24 +3,42 @@ use Prim.Native.Nat.{_-_}
 use native.Mathlib.Omega.{arith}
 use borrow.Author.Needs.{needs}
 use Rattle.script.specs.Text.{pairAt}
-use Rattle.script.specs.TextLaws.{Listing, listing-start, listing-more, octets-end}
+use Rattle.script.specs.TextLaws.{Listing, listing-start, listing-more, joining, octets-end}
 use Rattle.script.proofs.text.octets_of.Statement.{statement}
 use Rattle.script.proofs.text.octets_of.Tie as tie
 
 abbrev Inv-loop : tie.InvT-loop
-Inv-loop w n out₀ i₀ out i = Listing (pairAt w) n out i
+Inv-loop w n v out₀ i₀ out i = Listing (pairAt w) n out i
 
 abbrev μ-loop : tie.MeasureT-loop
-μ-loop w n out₀ i₀ out i = n - i
+μ-loop w n v out₀ i₀ out i = n - i
 
 octets-count-requires : tie.Need-octets-count-requires Inv-loop μ-loop
 octets-count-requires c κs = search needs
 
+nibbles-requires : tie.Need-nibbles-requires Inv-loop μ-loop
+nibbles-requires c κs = search needs
+
 loop-holds : tie.Need-loop-holds Inv-loop μ-loop
 loop-holds c = listing-start _ _ (omega arith)
 
-pair-at-requires : tie.Need-pair-at-requires Inv-loop μ-loop
-pair-at-requires c κs = omega arith
+mul-joined : tie.Need-mul-joined Inv-loop μ-loop
+mul-joined c = omega arith
+
+array-read-joined : tie.Need-array-read-joined Inv-loop μ-loop
+array-read-joined c = omega arith
+
+mul-joined-2 : tie.Need-mul-joined-2 Inv-loop μ-loop
+mul-joined-2 c = omega arith
+
+add-joined : tie.Need-add-joined Inv-loop μ-loop
+add-joined c = omega arith
+
+array-read-joined-2 : tie.Need-array-read-joined-2 Inv-loop μ-loop
+array-read-joined-2 c = omega arith
+
+joined-requires : tie.Need-joined-requires Inv-loop μ-loop
+joined-requires c κs = search needs
 
 array-write-out : tie.Need-array-write-out Inv-loop μ-loop
 array-write-out c = omega arith
@@ -32,7 +50,7 @@ loop-less : tie.Need-loop-less Inv-loop μ-loop
 loop-less c = search needs
 
 loop-again : tie.Need-loop-again Inv-loop μ-loop
-loop-again c = search listing-more
+loop-again c = search (listing-more, joining)
 
 returns : tie.Need-returns Inv-loop μ-loop
 returns c = search octets-end
@@ -44,8 +62,14 @@ octets-of-spec =
     Inv-loop
     μ-loop
     octets-count-requires
+    nibbles-requires
     loop-holds
-    pair-at-requires
+    mul-joined
+    array-read-joined
+    mul-joined-2
+    add-joined
+    array-read-joined-2
+    joined-requires
     array-write-out
     add-i
     loop-less

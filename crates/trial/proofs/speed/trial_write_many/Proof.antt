@@ -6,19 +6,16 @@ use Rattle.trial.proofs.speed.trial_write_many.Statement.{statement}
 use Rattle.trial.proofs.speed.trial_write_many.Tie as tie
 
 abbrev Inv-loop : tie.InvT-loop
-Inv-loop creation times out₀ card₀ sum₀ left₀ out card sum left = length out ≡ length out₀
+Inv-loop creation times out₀ made sum₀ left₀ out sum left = length out ≡ length out₀
 
 abbrev μ-loop : tie.MeasureT-loop
-μ-loop creation times out₀ card₀ sum₀ left₀ out card sum left = left
+μ-loop creation times out₀ made sum₀ left₀ out sum left = left
 
 create-requires : tie.Need-create-requires Inv-loop μ-loop
 create-requires c κs = search needs
 
 loop-holds : tie.Need-loop-holds Inv-loop μ-loop
 loop-holds c = search needs
-
-with-ack-requires : tie.Need-with-ack-requires Inv-loop μ-loop
-with-ack-requires c κs = search needs
 
 write-requires : tie.Need-write-requires Inv-loop μ-loop
 write-requires c κs = search needs
@@ -52,7 +49,6 @@ trial-write-many-spec =
     μ-loop
     create-requires
     loop-holds
-    with-ack-requires
     write-requires
     wrote-requires
     wrapping-add-u64-requires

@@ -1,0 +1,38 @@
+-- `feature::settle_value` meets its contract. Assumes nothing.
+use Rattle.feature.specs.OutcomeLaws.{settled-value}
+use borrow.Author.Needs.{needs}
+use Rattle.feature.proofs.settle_value.Statement.{statement}
+use Rattle.feature.proofs.settle_value.Tie as tie
+
+switches-of-requires : tie.Need-switches-of-requires
+switches-of-requires c κs = search needs
+
+wide-requires : tie.Need-wide-requires
+wide-requires c κs = search needs
+
+first-requires : tie.Need-first-requires
+first-requires c κs = search needs
+
+flags-in-requires : tie.Need-flags-in-requires
+flags-in-requires c κs = search needs
+
+from-requires : tie.Need-from-requires
+from-requires c κs = search needs
+
+settle-requires : tie.Need-settle-requires
+settle-requires c κs = search needs
+
+returns : tie.Need-returns
+returns c = search settled-value
+
+pub settle-value-spec : {M : Type 1} → statement M
+settle-value-spec =
+    tie.close
+    (tie.spec
+    switches-of-requires
+    wide-requires
+    first-requires
+    flags-in-requires
+    from-requires
+    settle-requires
+    returns)

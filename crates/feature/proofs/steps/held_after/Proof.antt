@@ -1,0 +1,31 @@
+-- `feature::steps::held_after` meets its contract. Assumes nothing.
+use Rattle.feature.specs.TurnLaws.{held-kept, held-brought, held-none}
+use borrow.Author.Needs.{needs}
+use Rattle.feature.proofs.steps.held_after.Statement.{statement}
+use Rattle.feature.proofs.steps.held_after.Tie as tie
+
+keeps-requires : tie.Need-keeps-requires
+keeps-requires c κs = search needs
+
+returns : tie.Need-returns
+returns c = search held-kept
+
+from-requires : tie.Need-from-requires
+from-requires c κs = search needs
+
+hold-requires : tie.Need-hold-requires
+hold-requires c κs = search needs
+
+returns-2 : tie.Need-returns-2
+returns-2 c = search held-brought
+
+none-requires : tie.Need-none-requires
+none-requires c κs = search needs
+
+returns-3 : tie.Need-returns-3
+returns-3 c = search held-none
+
+pub held-after-spec : {M : Type 1} → statement M
+held-after-spec =
+    tie.close
+    (tie.spec keeps-requires returns from-requires hold-requires returns-2 none-requires returns-3)

@@ -1,0 +1,323 @@
+-- What a frame makes of a feature: its small part, decided first, and the parameters held of the peer. Laws for each way out of
+-- the functions. Assumes nothing.
+use Prim.Native.Nat.{ℕ}
+use native.Mathlib.Omega.{arith}
+use mathlib.Core.Bool.{Bool, true, false, not, _&&_, _||_, Bool·beq, false≢true}
+use mathlib.Core.Path.{_≡_, _∙_, refl, sym, ap}
+use mathlib.Core.List.{List}
+use lib.ListN.{length}
+use borrow.Author.Tests.{not-true, not-false, eq-eqb, ne-eqb, eqb-true, eqb-false}
+use Rattle.octets.specs.Words.{if_then_else_, _is_, _below_}
+use Rattle.parameters.specs.declared.Feature.{Feature}
+use Rattle.parameters.specs.declared.Parameters.{Parameters}
+use Rattle.parameters.specs.Parameters.{valid, plain, stored, noParameters}
+use Rattle.feature.specs.declared.Reason.the-variants.{Absent, Duplicate, Bad, Waiting, ControlTwice}
+use Rattle.feature.specs.declared.Setting.{Setting}
+use Rattle.feature.specs.declared.Peer.{Peer}
+use Rattle.feature.specs.declared.Decision.{Decision}
+use Rattle.feature.specs.declared.Outcome.{Outcome}
+use Rattle.feature.specs.declared.State.{State}
+use Rattle.feature.specs.declared.steps.Course.{Course}
+use Rattle.feature.specs.declared.steps.Course.the-variants.{Twice, OtherVersion, Exchange}
+use Rattle.feature.specs.declared.steps.Turn.{Turn}
+use Rattle.feature.specs.Outcome.{Received, operOf, maxOf, parametersOf, lower, heldPeer, withoutPeer, settled, outcome}
+use Rattle.feature.specs.OutcomeLaws.{decided, outcomeOf}
+use Rattle.feature.specs.Rules.{settled-peer}
+use Rattle.feature.specs.State.{next, flags, subTlv, controlTwice, acknowledged, received, changed, marked}
+use Rattle.feature.specs.StateLaws.{changed-not, changed-hidden, changed-oper, changed-flags, marked-withheld, marked-same, marked-changed}
+
+-- ---- the state after a frame
+
+-- steps 1 to 4
+abbrev pub stepped : Course → Feature → Received → ℕ → ℕ → State → State
+stepped Twice f r rcvd seq x = controlTwice x
+stepped OtherVersion f r rcvd seq x = x
+stepped Exchange f r rcvd seq x = received f r (acknowledged rcvd seq x)
+
+-- and step 5
+abbrev pub after : Course → Feature → Received → ℕ → ℕ → State → State
+after c f r rcvd seq x = marked f seq x (stepped c f r rcvd seq x)
+
+-- ---- in two parts
+
+abbrev pub turnOf : State → Turn
+turnOf x = record { decision = decided (x .outcome); syncd = x .syncd; sequence = x .sequence }
+
+abbrev pub keptAt : State → Bool → Turn
+keptAt x syncd = record { decision = decided (x .outcome); syncd = syncd; sequence = x .sequence }
+
+unfoldable pub weighed : State → Decision → Bool → ℕ → Turn
+weighed x d syncd seq =
+    if x .outcome .oper is d .oper && Bool·beq (x .outcome .error) (d .error) then record { decision = d; syncd = syncd; sequence = x .sequence }
+    else record { decision = d; syncd = false; sequence = next seq }
+
+abbrev pub heldNow : Feature → List ℕ → Bool → Parameters
+heldNow f v held = if held then stored (plain f (parametersOf v)) else noParameters
+
+-- a frame leaves what is held of the peer
+abbrev keepsOn : Course → Bool
+keepsOn Twice = false
+keepsOn OtherVersion = true
+keepsOn Exchange = false
+
+unfoldable pub keepsBy : Course → State → Bool
+keepsBy c x = not (x .setting .advertise) || keepsOn c
+
+unfoldable pub heldAfter : Course → Feature → List ℕ → Bool → State → Parameters
+heldAfter c f v held x = if keepsBy c x then x .outcome .peer .parameters else heldNow f v held
+
+abbrev pub renewed : State → Turn → Parameters → State
+renewed x t p = record { max = x .max; setting = x .setting; outcome = outcomeOf (t .decision) p; syncd = t .syncd; sequence = t .sequence }
+
+-- whether the sub-TLV changed
+unfoldable pub changedBy : State → Turn → Bool
+changedBy x t = x .setting .advertise && not (x .outcome .oper is t .decision .oper && Bool·beq (x .outcome .error) (t .decision .error))
+
+-- ---- step 5 on the small part
+
+-- the error flag shows
+flags-error : (e w a b : Bool) → Bool·beq a b ≡ false → flags e w a ≡ flags e w b → ⊥
+flags-error e w true true p q = absurd (false≢true (sym p))
+flags-error e w true false p q = omega arith
+flags-error e w false true p q = omega arith
+flags-error e w false false p q = absurd (false≢true (sym p))
+
+beq-self : (b : Bool) → not (Bool·beq b b) ≡ false
+beq-self true = refl
+beq-self false = refl
+
+beq-is : (a b : Bool) → Bool·beq a b ≡ true → a ≡ b
+beq-is true true e = refl
+beq-is true false e = sym e
+beq-is false true e = e
+beq-is false false e = refl
+
+-- the sub-TLV of an advertised feature changed exactly if its version or its error did
+module _ (f : Feature) (x : State) (o : Outcome) (syncd : Bool) (n : ℕ) where
+  abbrev become : State
+  become = record { max = x .max; setting = x .setting; outcome = o; syncd = syncd; sequence = n }
+
+  changed-become : changed f x become ≡ changedBy x (turnOf become)
+  unfolding changedBy subTlv
+  changed-become = go (x .setting .advertise) (x .outcome .oper is o .oper) (Bool·beq (x .outcome .error) (o .error)) refl refl refl
+    where
+      b : not (Bool·beq (x .setting .advertise) (x .setting .advertise)) ≡ false
+      b = beq-self (x .setting .advertise)
+
+      go : (a e d : Bool) → x .setting .advertise ≡ a → x .outcome .oper is o .oper ≡ e → Bool·beq (x .outcome .error) (o .error) ≡ d
+          → changed f x become ≡ (a && not (e && d))
+      go false e d p q r = sym (changed-hidden f x become b (ap not p))
+      go true true true p q r =
+          sym (changed-not f x become (rw (eqb-true (x .outcome .oper) (o .oper) q, beq-is (x .outcome .error) (o .error) r) refl))
+      go true true false p q r =
+          sym (changed-flags f x become b (ap not p) refl refl (flags-error (x .setting .enable) (x .setting .willing) (x .outcome .error) (o .error) r))
+      go true false d p q r = sym (changed-oper f x become b (ap not p) (eqb-false (x .outcome .oper) (o .oper) q))
+
+module _ (f : Feature) (seq : ℕ) (x : State) (t : not (x .setting .advertise) ≡ false) (o : Outcome) (syncd : Bool) where
+  abbrev come : State
+  come = become f x o syncd (x .sequence)
+
+  told : (b : Bool) → (x .outcome .oper is o .oper && Bool·beq (x .outcome .error) (o .error)) ≡ b → not b ≡ changed f x come
+  unfolding changedBy
+  told b e = sym (changed-become f x o syncd (x .sequence) ∙ (λ i. not-false (x .setting .advertise) t i && not (e i)))
+
+  pub weighed-marked : weighed x (decided o) syncd seq ≡ turnOf (marked f seq x come)
+  unfolding weighed
+  weighed-marked = by (x .outcome .oper is o .oper && Bool·beq (x .outcome .error) (o .error)) refl
+    where
+      by : (b : Bool) → (x .outcome .oper is o .oper && Bool·beq (x .outcome .error) (o .error)) ≡ b
+          → (if b then record { decision = decided o; syncd = syncd; sequence = x .sequence } else record { decision = decided o; syncd = false; sequence = next seq })
+          ≡ turnOf (marked f seq x come)
+      by true e = ap turnOf (marked-same f seq x come t (told true e) refl)
+      by false e = ap turnOf (marked-changed f seq x come t (told false e) refl refl)
+
+module _ (x : State) (d : Decision) (syncd : Bool) (seq : ℕ) where
+  module _ {t : Turn} (e : t ≡ record { decision = d; syncd = false; sequence = next seq }) where
+    pub weighed-oper : (x .outcome .oper ≡ d .oper → ⊥) → t ≡ weighed x d syncd seq
+    unfolding weighed
+    weighed-oper n = e ∙ simp (ne-eqb (x .outcome .oper) (d .oper) n)
+
+    pub weighed-error : x .outcome .oper ≡ d .oper → not (Bool·beq (x .outcome .error) (d .error)) ≡ true → t ≡ weighed x d syncd seq
+    unfolding weighed
+    weighed-error o n = e ∙ simp (eq-eqb (x .outcome .oper) (d .oper) o, not-true (Bool·beq (x .outcome .error) (d .error)) n)
+
+  pub weighed-same : x .outcome .oper ≡ d .oper → not (Bool·beq (x .outcome .error) (d .error)) ≡ false
+      → record { decision = d; syncd = syncd; sequence = x .sequence } ≡ weighed x d syncd seq
+  unfolding weighed
+  weighed-same o n = simp (eq-eqb (x .outcome .oper) (d .oper) o, not-false (Bool·beq (x .outcome .error) (d .error)) n)
+
+-- ---- a law for each way out
+
+withheld-same : (f : Feature) (seq : ℕ) (x y : State) → y .setting .advertise ≡ false → y ≡ marked f seq x y
+unfolding marked
+withheld-same f seq x y e = simp e
+
+module _ (f : Feature) (seq : ℕ) (x : State) {t : Turn} where
+  pub twice-withheld : not (x .setting .advertise) ≡ true → t ≡ keptAt x (x .syncd) → t ≡ turnOf (marked f seq x (controlTwice x))
+  unfolding controlTwice
+  twice-withheld a e = let n : x .setting .advertise ≡ false = not-true (x .setting .advertise) a in e ∙ simp n (ap turnOf (withheld-same f seq x x n))
+
+  pub twice-advertised : {d : Decision} → not (x .setting .advertise) ≡ false → d ≡ decided (withoutPeer ControlTwice (x .outcome .oper) true)
+      → t ≡ weighed x d (x .syncd) seq → t ≡ turnOf (marked f seq x (controlTwice x))
+  unfolding controlTwice
+  twice-advertised a ed e =
+      e ∙ rw ed (simp (not-false (x .setting .advertise) a) (weighed-marked f seq x a (withoutPeer ControlTwice (x .outcome .oper) true) (x .syncd)))
+
+  module _ (r : Received) (rcvd : ℕ) {s : Bool} (es : s ≡ (x .syncd || (x .sequence is rcvd && x .sequence is seq))) where
+    pub receive-withheld : not (x .setting .advertise) ≡ true → t ≡ keptAt x s → t ≡ turnOf (marked f seq x (received f r (acknowledged rcvd seq x)))
+    unfolding received acknowledged
+    receive-withheld a e =
+        let n : x .setting .advertise ≡ false = not-true (x .setting .advertise) a in
+        e ∙ rw es (simp n (ap turnOf (withheld-same f seq x (acknowledged rcvd seq x) n)))
+
+    pub receive-advertised : {d : Decision} → not (x .setting .advertise) ≡ false → d ≡ decided (outcome f (x .max) (x .setting) (x .outcome .oper) r)
+        → t ≡ weighed x d s seq → t ≡ turnOf (marked f seq x (received f r (acknowledged rcvd seq x)))
+    unfolding received acknowledged
+    receive-advertised a ed e =
+        e ∙ rw (ed, es)
+        (simp (not-false (x .setting .advertise) a)
+        (weighed-marked f seq x a (outcome f (x .max) (x .setting) (x .outcome .oper) r) (x .syncd || (x .sequence is rcvd && x .sequence is seq))))
+
+-- a state that stays is not marked
+unmarked : (f : Feature) (seq : ℕ) (x : State) → x ≡ marked f seq x x
+unmarked f seq x = by (not (x .setting .advertise)) refl
+  where
+    by : (b : Bool) → not (x .setting .advertise) ≡ b → x ≡ marked f seq x x
+    by true e = marked-withheld f seq x x e
+    by false e = marked-same f seq x x e (changed-not f x x refl) refl
+
+module _ (f : Feature) (r : Received) (rcvd seq : ℕ) (x : State) (c : Course) {t : Turn} where
+  pub turn-twice : c ≡ Twice → t ≡ turnOf (marked f seq x (controlTwice x)) → t ≡ turnOf (after c f r rcvd seq x)
+  turn-twice ec e = rw ec e
+
+  pub turn-other : c ≡ OtherVersion → t ≡ keptAt x (x .syncd) → t ≡ turnOf (after c f r rcvd seq x)
+  turn-other ec e = rw ec (e ∙ ap turnOf (unmarked f seq x))
+
+  pub turn-exchange : c ≡ Exchange → t ≡ turnOf (marked f seq x (received f r (acknowledged rcvd seq x))) → t ≡ turnOf (after c f r rcvd seq x)
+  turn-exchange ec e = rw ec e
+
+-- ---- the parameters
+
+module _ (x : State) (c : Course) where
+  pub keeps-withheld : not (x .setting .advertise) ≡ true → true ≡ keepsBy c x
+  unfolding keepsBy
+  keeps-withheld a = simp a
+
+  module _ (a : not (x .setting .advertise) ≡ false) where
+    pub keeps-twice : c ≡ Twice → false ≡ keepsBy c x
+    unfolding keepsBy
+    keeps-twice e = simp (a, e)
+
+    pub keeps-other : c ≡ OtherVersion → true ≡ keepsBy c x
+    unfolding keepsBy
+    keeps-other e = simp (a, e)
+
+    pub keeps-exchange : c ≡ Exchange → false ≡ keepsBy c x
+    unfolding keepsBy
+    keeps-exchange e = simp (a, e)
+
+module _ (f : Feature) (v : List ℕ) (x : State) (c : Course) {b : Bool} (k : b ≡ keepsBy c x) (held : Bool) where
+  pub held-kept : b ≡ true → x .outcome .peer .parameters ≡ heldAfter c f v held x
+  unfolding heldAfter
+  held-kept t = simp (← k, t)
+
+  module _ (t : b ≡ false) {p : Parameters} where
+    pub held-brought : {o : List ℕ} → held ≡ true → o ≡ parametersOf v → p ≡ stored (plain f o) → p ≡ heldAfter c f v held x
+    unfolding heldAfter
+    held-brought h eo e = e ∙ simp (← k, t, h, eo)
+
+    pub held-none : held ≡ false → p ≡ noParameters → p ≡ heldAfter c f v held x
+    unfolding heldAfter
+    held-none h e = e ∙ simp (← k, t, h)
+
+-- the outcome holds the parameters that came exactly if it holds a peer
+Brought : Feature → List ℕ → Peer → Type 0
+Brought f v p = p .parameters ≡ heldNow f v (p .held)
+
+ruled-brought : (f : Feature) (max : ℕ) (s : Setting) (oper low : ℕ) (v : List ℕ) (a b c d e : Bool) →
+    Brought f v
+    ((if a then withoutPeer Absent max false
+    else if b then withoutPeer Duplicate oper true
+    else if c then withoutPeer Bad oper true
+    else if not d then withoutPeer Waiting low false
+    else if not e then withoutPeer Bad low true
+    else settled f s low (heldPeer f v))
+    .peer)
+unfolding Brought
+ruled-brought f max s oper low v true b c d e = refl
+ruled-brought f max s oper low v false true c d e = refl
+ruled-brought f max s oper low v false false true d e = refl
+ruled-brought f max s oper low v false false false false e = refl
+ruled-brought f max s oper low v false false false true false = refl
+ruled-brought f max s oper low v false false false true true = rw settled-peer refl
+
+outcome-brought : (f : Feature) (max : ℕ) (s : Setting) (oper : ℕ) (r : Received) → Brought f (r .value) (outcome f max s oper r .peer)
+unfolding outcome
+outcome-brought f max s oper r =
+    ruled-brought f max s oper (lower max (maxOf (r .value))) (r .value) (r .count is 0) (1 below r .count)
+    (length (r .value) below 4 || maxOf (r .value) below operOf (r .value)) (operOf (r .value) is lower max (maxOf (r .value))) (valid f (parametersOf (r .value)))
+
+-- ---- both parts together
+
+-- what steps 1 to 5 leave as it is
+pub record Same (x y : State) : Type 0 where
+  pub max : y .max ≡ x .max
+  pub setting : y .setting ≡ x .setting
+
+either-same : (x : State) (b : Bool) (y z : State) → Same x y → Same x z → Same x (if b then y else z)
+either-same x true y z h k = h
+either-same x false y z h k = k
+
+marked-same-state : (f : Feature) (seq : ℕ) (x y : State) → Same x y → Same x (marked f seq x y)
+unfolding marked
+marked-same-state f seq x y h = either-same x (y .setting .advertise && changed f x y) _ y (record { max = h .max; setting = h .setting }) h
+
+stepped-same : (c : Course) (f : Feature) (r : Received) (rcvd seq : ℕ) (x : State) → Same x (stepped c f r rcvd seq x)
+unfolding controlTwice received acknowledged
+stepped-same Twice f r rcvd seq x = either-same x (x .setting .advertise) _ x (record { max = refl; setting = refl }) (record { max = refl; setting = refl })
+stepped-same OtherVersion f r rcvd seq x = record { max = refl; setting = refl }
+stepped-same Exchange f r rcvd seq x =
+    either-same x (x .setting .advertise) _ (acknowledged rcvd seq x) (record { max = refl; setting = refl }) (record { max = refl; setting = refl })
+
+pub after-same : (c : Course) (f : Feature) (r : Received) (rcvd seq : ℕ) (x : State) → Same x (after c f r rcvd seq x)
+after-same c f r rcvd seq x = marked-same-state f seq x (stepped c f r rcvd seq x) (stepped-same c f r rcvd seq x)
+
+pub changed-by : (f : Feature) (x y : State) → Same x y → changed f x y ≡ changedBy x (turnOf y)
+changed-by f x y s =
+    let e : y ≡ record { max = x .max; setting = x .setting; outcome = y .outcome; syncd = y .syncd; sequence = y .sequence } =
+    λ i. record { max = s .max i; setting = s .setting i; outcome = y .outcome; syncd = y .syncd; sequence = y .sequence } in
+    ap (changed f x) e ∙ changed-become f x (y .outcome) (y .syncd) (y .sequence)
+
+marked-outcome : (f : Feature) (seq : ℕ) (x y : State) → marked f seq x y .outcome ≡ y .outcome
+unfolding marked
+marked-outcome f seq x y = by (y .setting .advertise && changed f x y)
+  where
+    by : (b : Bool) → (if b then record { max = y .max; setting = y .setting; outcome = y .outcome; syncd = false; sequence = next seq } else y) .outcome ≡ y .outcome
+    by true = refl
+    by false = refl
+
+-- the parameters that are held are those of the state after steps 1 to 4
+stepped-held : (c : Course) (f : Feature) (r : Received) (rcvd seq : ℕ) (x : State) →
+    heldAfter c f (r .value) (stepped c f r rcvd seq x .outcome .peer .held) x ≡ stepped c f r rcvd seq x .outcome .peer .parameters
+unfolding heldAfter keepsBy controlTwice received acknowledged Brought
+stepped-held c f r rcvd seq x = by c (x .setting .advertise) refl
+  where
+    by : (c : Course) (b : Bool) → x .setting .advertise ≡ b →
+        heldAfter c f (r .value) (stepped c f r rcvd seq x .outcome .peer .held) x ≡ stepped c f r rcvd seq x .outcome .peer .parameters
+    by Twice true e = simp e
+    by Twice false e = simp e
+    by OtherVersion true e = simp e
+    by OtherVersion false e = simp e
+    by Exchange true e = simp e (sym (outcome-brought f (x .max) (x .setting) (x .outcome .oper) r))
+    by Exchange false e = simp e
+
+pub renewed-after : (c : Course) (f : Feature) (r : Received) (rcvd seq : ℕ) (x : State) →
+    renewed x (turnOf (after c f r rcvd seq x)) (heldAfter c f (r .value) (after c f r rcvd seq x .outcome .peer .held) x) ≡ after c f r rcvd seq x
+renewed-after c f r rcvd seq x =
+    let y : State = stepped c f r rcvd seq x in
+    let z : State = marked f seq x y in
+    let s : Same x z = after-same c f r rcvd seq x in
+    let o : z .outcome ≡ y .outcome = marked-outcome f seq x y in
+    let h : heldAfter c f (r .value) (z .outcome .peer .held) x ≡ z .outcome .peer .parameters =
+    ap (λ (b : Bool). heldAfter c f (r .value) b x) (ap (λ (o : Outcome). o .peer .held) o) ∙ stepped-held c f r rcvd seq x ∙ ap (λ (o : Outcome). o .peer .parameters) (sym o) in
+    λ i. record { max = sym (s .max) i; setting = sym (s .setting) i; outcome = outcomeOf (decided (z .outcome)) (h i); syncd = z .syncd; sequence = z .sequence }
