@@ -15,7 +15,7 @@ use Rattle.feature.specs.declared.Setting.{Setting}
 use Rattle.feature.specs.declared.Outcome.{Outcome}
 use Rattle.feature.specs.declared.State.{State}
 use Rattle.feature.specs.Outcome.{Received, operOf, maxOf, parametersOf, lower, heldPeer, withoutPeer, settled, outcome}
-use Rattle.feature.specs.Rules.{settled-oper}
+use Rattle.feature.specs.RulesLaws.{settled-oper}
 use Rattle.feature.specs.State.{acknowledged}
 use Rattle.port.specs.Sound.{SoundParameters}
 use Rattle.exchange.specs.Rounds.{Side, ruled}

@@ -20,7 +20,7 @@ use Rattle.port.specs.Sound.{SoundParameters}
 use Rattle.exchange.specs.Rounds.{Side, receivedAlone, ruled}
 use Rattle.exchange.proofs.Core.{written, changed}
 use Rattle.port.proofs.Tests.{is-same, beq-same}
-use Rattle.feature.specs.Rules.{judged, settled-by, settled-oper, settled-peer}
+use Rattle.feature.specs.RulesLaws.{judged, settled-by, settled-oper, settled-peer}
 
 -- the version that the two settings lead to, if the peer advertises
 unfoldable pub version : Bool → Side → Side → ℕ

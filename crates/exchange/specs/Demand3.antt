@@ -31,8 +31,7 @@ pub record Begun (c : Ends) : Type 0 where
   pub no-r : c .from-r ≡ none
 
 -- First half, at an end whose port is now p, where it started as `own` and its peer as `peer`: "Acknowledged means RcvdAckNo =
--- SeqNo; the version run at is Oper". The outcome has the version, mode and error of each feature, "the configuration compared is
--- OperCfg".
+-- SeqNo; the version run at is Oper". The outcome has the version, mode and error of each feature; `configuration` is OperCfg.
 pub record Agreed (own peer p : Port) : Type 0 where
   pub acknowledged : p .control .rcvd ≡ p .control .seq
   pub version : p .control .oper ≡ lower (own .control .max) (peer .control .max)

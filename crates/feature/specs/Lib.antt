@@ -1,7 +1,7 @@
 pub mod Reasons
 pub mod Outcome
 pub mod OutcomeLaws
-pub mod Rules
+pub mod RulesLaws
 pub mod State
 pub mod StateLaws
 pub mod TurnLaws

@@ -14,7 +14,7 @@ use Rattle.feature.specs.declared.Peer.{Peer}
 use Rattle.feature.specs.declared.Outcome.{Outcome}
 use Rattle.parameters.specs.Parameters.{valid, compatible, plain, stored, content, noParameters}
 
--- What a frame has of one feature: how often it came, and the value of the last, "Oper, Max, flags, SubType, then parameters".
+-- What a frame has of one feature: how often it came, counted up to two, and the value of the last, "Oper, Max, flags, SubType, then parameters".
 pub record Received : Type 0 where
   pub count : ℕ
   pub value : List ℕ

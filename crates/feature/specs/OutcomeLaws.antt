@@ -24,7 +24,7 @@ use Rattle.feature.specs.declared.Switches.{Switches}
 use Rattle.feature.specs.declared.Decision.{Decision}
 use Rattle.feature.specs.declared.Outcome.{Outcome}
 use Rattle.feature.specs.Outcome.{Received, operOf, maxOf, enableOf, willingOf, errorOf, parametersOf, configuration, lower, heldPeer, withoutPeer, withPeer, settled, outcome}
-use Rattle.feature.specs.Rules.{judged, settled-by}
+use Rattle.feature.specs.RulesLaws.{judged, settled-by}
 
 -- ---- an outcome in two parts
 

@@ -24,7 +24,7 @@ use Rattle.feature.specs.declared.Outcome.{Outcome}
 use Rattle.feature.specs.declared.State.{State}
 use Rattle.feature.specs.Outcome.{withoutPeer, settled}
 use Rattle.feature.specs.OutcomeLaws.{decided, outcomeOf, peerOf, settled-lent, settledOn, settles, switchesOf, withMode}
-use Rattle.feature.specs.Rules.{settled-peer}
+use Rattle.feature.specs.RulesLaws.{settled-peer}
 use Rattle.feature.specs.State.{next, freshAt, flags, value, headed, subTlv, changed, marked, sameSetting, resettled, reset}
 
 module _ (sequence max : ℕ) (s : Setting) {d : Decision} {p : Parameters} {o : Outcome} (ep : p ≡ noParameters) where

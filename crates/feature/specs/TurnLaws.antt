@@ -22,7 +22,7 @@ use Rattle.feature.specs.declared.steps.Course.the-variants.{Twice, Othe
 use Rattle.feature.specs.declared.steps.Turn.{Turn}
 use Rattle.feature.specs.Outcome.{Received, operOf, maxOf, parametersOf, lower, heldPeer, withoutPeer, settled, outcome}
 use Rattle.feature.specs.OutcomeLaws.{decided, outcomeOf}
-use Rattle.feature.specs.Rules.{settled-peer}
+use Rattle.feature.specs.RulesLaws.{settled-peer}
 use Rattle.feature.specs.State.{next, flags, subTlv, controlTwice, acknowledged, received, changed, marked}
 use Rattle.feature.specs.StateLaws.{changed-not, changed-hidden, changed-oper, changed-flags, marked-withheld, marked-same, marked-changed}
 

@@ -125,7 +125,7 @@ pub fn lower(a: u8, b: u8) -> u8
 }
 
 // No parameters, as they are held where there is no peer.
-pub fn none() -> Parameters
+pub fn no_parameters() -> Parameters
     ensures { λ r. ⌜ r ≡ noParameters ⌝ }
 {
     Parameters {

@@ -44,7 +44,7 @@ pub fn fresh_at(sequence: u32, max: u8, s: Setting) -> State
     if s.advertise {
         let outcome = crate::outcome_of(
             crate::without_peer(Reason::NoPeerYet, max, false),
-            crate::none(),
+            crate::no_parameters(),
         );
         return State {
             max: max,
@@ -56,7 +56,7 @@ pub fn fresh_at(sequence: u32, max: u8, s: Setting) -> State
     }
     let mut decision = crate::without_peer(Reason::NotAdvertised, max, false);
     decision.mode = s.enable;
-    let outcome = crate::outcome_of(decision, crate::none());
+    let outcome = crate::outcome_of(decision, crate::no_parameters());
     State {
         max: max,
         setting: s,
@@ -101,7 +101,8 @@ fn kept(x: State, syncd: bool) -> Turn
     }
 }
 
-// Step 5 of handling: a feature whose sub-TLV changed waits for a new acknowledgement.
+// Step 5 of handling: a feature whose sub-TLV changed waits for a new acknowledgement. Of what is written a frame changes only
+// Oper and Error.
 fn weigh(x: State, d: Decision, syncd: bool, seq: u32) -> Turn
     ensures { λ r. ⌜ r ≡ weighed x d syncd seq ⌝ }
 {
@@ -218,7 +219,7 @@ pub fn held_after(f: Feature, x: State, course: Course, held: bool, value: &[u8]
     if held {
         return parameters::hold(f, octets::from(value, 4));
     }
-    crate::none()
+    crate::no_parameters()
 }
 
 // The state after a frame.

@@ -26,14 +26,14 @@ use Rattle.feature.specs.declared.Setting.{Setting}
 use Rattle.feature.specs.declared.Peer.{Peer}
 use Rattle.feature.specs.declared.Outcome.{Outcome}
 use Rattle.feature.specs.declared.State.{State}
-use Rattle.feature.specs.Outcome.{Received, operOf, maxOf, parametersOf, lower, heldPeer, withoutPeer, settled, outcome}
+use Rattle.feature.specs.Outcome.{Received, operOf, maxOf, parametersOf, configuration, lower, heldPeer, withoutPeer, settled, outcome}
 use Rattle.feature.specs.State.{next, withOutcome, controlTwice, acknowledged, received, changed, marked}
 use Rattle.port.specs.declared.Port.{Port}
 use Rattle.port.specs.Parts.{featureOf, withControl, some}
 use Rattle.port.specs.PortEvents.{withSeq, unsynced, sent, step5, completed}
 use Rattle.port.specs.Handling.{Message, message, twice, met, exchanged, once, steps1to4}
 use Rattle.port.specs.Sound.{SoundParameters, SoundSetting, SoundPeer, SoundState, SoundControl, SoundPort}
-use Rattle.feature.specs.Rules.{judged, settled-by}
+use Rattle.feature.specs.RulesLaws.{judged, settled-by}
 
 -- ---- outcomes
 
@@ -131,6 +131,14 @@ module _ (f : Feature) where
       either-sound (y .setting .advertise && changed f x y) _ y
       (record { max = h .max; oper = h .oper; sequence = next-small seq; setting = h .setting; peer = h .peer; adopted = h .adopted })
       h
+
+-- OperCfg of a sound state is sound
+pub configuration-sound : (f : Feature) (x : State) → SoundState f x → SoundParameters f (configuration (x .setting) (x .outcome))
+configuration-sound f x h = by (x .outcome .adopts) refl
+  where
+    by : (b : Bool) → x .outcome .adopts ≡ b → SoundParameters f (if b then x .outcome .peer .parameters else x .setting .desired)
+    by true e = h .peer .some (h .adopted e)
+    by false e = h .setting .desired
 
 -- ---- the port
 

@@ -37,10 +37,11 @@ use Rattle.port.specs.Writing.{asks}
 abbrev pub withSeq : Control → ℕ → Control
 withSeq c n = record { max = c .max; oper = c .oper; seq = n; ack = c .ack; rcvd = c .rcvd; seen = c .seen; duplicate = c .duplicate }
 
--- "if an advertised feature has Syncd false and RcvdAckNo = SeqNo, SeqNo goes up by one, 4,294,967,295 going to 0"
+-- an advertised feature has Syncd false
 unfoldable pub unsynced : State → Bool
 unsynced x = x .setting .advertise && not (x .syncd)
 
+-- "if an advertised feature has Syncd false and RcvdAckNo = SeqNo, SeqNo goes up by one, 4,294,967,295 going to 0"
 unfoldable pub sent : Port → Port
 sent p =
     if some (λ f. unsynced (featureOf p f)) && p .control .rcvd is p .control .seq then withControl p (withSeq (p .control) (next (p .control .seq)))
@@ -131,7 +132,7 @@ started v g w a =
 abbrev pub createdPort : Versions → (Feature → Switches) → (Feature → List ℕ) → Port
 createdPort v w p = started v (settingOf Groups (w Groups) (p Groups)) (settingOf Flow (w Flow) (p Flow)) (settingOf Applications (w Applications) (p Applications))
 
--- what stands for a port where none is made, which document 01 leaves free: stopped, and zero throughout
+-- what stands for a port where none is made, which document 01 leaves free: fresh and stopped, versions 0, nothing advertised
 abbrev pub noSetting : Setting
 noSetting = record { advertise = false; enable = false; willing = false; desired = noParameters }
 
@@ -151,15 +152,16 @@ blankPort =
 unfoldable pub settingsValid : (Feature → List ℕ) → Bool
 settingsValid p = each (λ f. validLocal f (p f))
 
--- "creation with an invalid setting gives 9 and makes no port". "a stopped port has none, so creation .. ask"
+-- "a stopped port has none, so creation .. ask"
 abbrev pub made : Port → Event
 made p = record { answer = Done true; port = p; notices = silent }
 
+-- "creation with an invalid setting gives 9 and makes no port"
 unfoldable pub created : Versions → (Feature → Switches) → (Feature → List ℕ) → Event
 created v w p = if settingsValid p then made (createdPort v w p) else refused InvalidSetting blankPort
 
 -- "Start and stop of running, .. and the several-neighbours flag going on, each go to the fresh state of the present settings.
--- Clearing that flag changes only the flag." "Setting a flag to what it is changes nothing."
+-- Clearing that flag changes only the flag."
 unfoldable pub restarts : Flag → Bool → Port → Port → Bool
 restarts Admin on before after = not (Bool·beq (running before) (running after))
 restarts Receive on before after = not (Bool·beq (running before) (running after))
@@ -176,6 +178,7 @@ flagNotice Several on = if on then raised.Notice kind.SeveralNeighbours else rai
 unfoldable pub flagSet : Flag → Bool → Port → Port
 flagSet flag on p = if restarts flag on p (withFlag p flag on) then freshPort (withFlag p flag on) else withFlag p flag on
 
+-- "Setting a flag to what it is changes nothing."
 unfoldable pub flagged : Flag → Bool → Port → Event
 flagged flag on p =
     if Bool·beq (flagOf p flag) on then unchanged p

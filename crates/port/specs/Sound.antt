@@ -33,7 +33,7 @@ pub record SoundState (f : Feature) (x : State) : Type 0 where
   pub sequence : x .sequence < 2 ^ 32
   pub setting : SoundSetting f (x .setting)
   pub peer : SoundPeer f (x .outcome .peer)
-  -- so that OperCfg is sound too
+  -- so OperCfg is sound too (proofs/Soundness: `configuration-sound`)
   pub adopted : x .outcome .adopts ≡ true → x .outcome .peer .held ≡ true
 
 pub record SoundControl (c : Control) : Type 0 where

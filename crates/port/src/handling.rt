@@ -117,7 +117,7 @@ fn waits(x: State, t: Turn) -> bool
     s.advertise & !t.syncd
 }
 
-// Whether the feature's sub-TLV changed.
+// Whether the feature's sub-TLV changed: a frame leaves its setting.
 fn changes(x: State, t: Turn) -> bool
     ensures { λ r. ⌜ r ≡ changedBy x t ⌝ }
 {
@@ -157,7 +157,7 @@ fn notice(x: State, t: Turn) -> Raised
     crate::events::becomes(why, now)
 }
 
-// Decides what a frame that is accepted changes.
+// Decides what a frame that is accepted changes: `admit` says that the port runs and that the parts lie inside.
 pub fn decide(p: Port, s: &[u8], c: Contents) -> Change
     requires { ⌜ Inside (now s) c × (running p ≡ true) ⌝ }
     ensures { λ r. ⌜ r ≡ changeOf (now (s .entry)) c p ⌝ }
@@ -208,7 +208,7 @@ fn held(f: Feature, x: State, course: Course, t: Turn, s: &[u8], found: Found) -
     feature::steps::held_after(f, x, course, d.held, part(s, found))
 }
 
-// The port after a frame that is accepted, by what the frame changes.
+// The port after a frame that is accepted, by what `decide` says that it changes.
 pub fn apply(p: Port, k: Change, s: &[u8], c: Contents) -> Port
     requires { ⌜ Inside (now s) c × (k ≡ changeOf (now s) c p) ⌝ }
     ensures { λ r. ⌜ r ≡ completed p (steps1to4 (now (s .entry)) c p) ⌝ }

@@ -1,4 +1,5 @@
-// One port: a pure machine over frames, settings and flags. An event gives the answer, the next port and the notices it raises.
+// One port: a pure machine over frames, settings and flags. An event gives the answer, the next port and the notices it raises;
+// a frame is decided first and applied then, since a port is long to copy.
 use feature::State;
 use notices::Kind;
 use tlv::Refusal;

@@ -7,8 +7,8 @@ use Rattle.feature.proofs.steps.fresh_at.Tie as tie
 without-peer-requires : tie.Need-without-peer-requires
 without-peer-requires c κs = search needs
 
-none-requires : tie.Need-none-requires
-none-requires c κs = search needs
+no-parameters-requires : tie.Need-no-parameters-requires
+no-parameters-requires c κs = search needs
 
 outcome-of-requires : tie.Need-outcome-of-requires
 outcome-of-requires c κs = search needs
@@ -19,8 +19,8 @@ returns c = search fresh-advertised
 without-peer-requires-2 : tie.Need-without-peer-requires-2
 without-peer-requires-2 c κs = search needs
 
-none-requires-2 : tie.Need-none-requires-2
-none-requires-2 c κs = search needs
+no-parameters-requires-2 : tie.Need-no-parameters-requires-2
+no-parameters-requires-2 c κs = search needs
 
 outcome-of-requires-2 : tie.Need-outcome-of-requires-2
 outcome-of-requires-2 c κs = search needs
@@ -33,10 +33,10 @@ fresh-at-spec =
     tie.close
     (tie.spec
     without-peer-requires
-    none-requires
+    no-parameters-requires
     outcome-of-requires
     returns
     without-peer-requires-2
-    none-requires-2
+    no-parameters-requires-2
     outcome-of-requires-2
     returns-2)

@@ -19,8 +19,8 @@ hold-requires c κs = search needs
 returns-2 : tie.Need-returns-2
 returns-2 c = search held-brought
 
-none-requires : tie.Need-none-requires
-none-requires c κs = search needs
+no-parameters-requires : tie.Need-no-parameters-requires
+no-parameters-requires c κs = search needs
 
 returns-3 : tie.Need-returns-3
 returns-3 c = search held-none
@@ -28,4 +28,4 @@ returns-3 c = search held-none
 pub held-after-spec : {M : Type 1} → statement M
 held-after-spec =
     tie.close
-    (tie.spec keeps-requires returns from-requires hold-requires returns-2 none-requires returns-3)
+    (tie.spec keeps-requires returns from-requires hold-requires returns-2 no-parameters-requires returns-3)
