@@ -1,13 +1,12 @@
 -- The outcome rules by what they decide beside the peer's parameters, a law for each: premises in the form in which a test leaves
 -- them. Assumes nothing.
 use Prim.Native.Nat.{ℕ, _<_, _≤_}
-use mathlib.Core.Bool.{Bool, true, false, not, _&&_, _||_, Bool·beq}
+use mathlib.Core.Bool.{Bool, true, false, not, _&&_, Bool·beq}
 use mathlib.Core.Path.{_≡_, _∙_, refl, sym, ap}
 use mathlib.Core.List.{List}
 use native.Mathlib.Omega.{arith}
 use lib.ListN.{length, take}
 use borrow.Author.Tests.{not-true, not-false, lt-ltb, le-ltb, eq-eqb, ne-eqb}
-use Rattle.octets.specs.Words.{if_then_else_}
 use Rattle.parameters.specs.declared.Feature.{Feature}
 use Rattle.parameters.specs.declared.Parameters.{Parameters}
 use Rattle.parameters.specs.Parameters.{valid, compatible, content, plain, stored, noParameters}
@@ -15,7 +14,6 @@ use Rattle.parameters.specs.FeatureLaws.{valid-length}
 use Rattle.parameters.specs.HoldingLaws.{content-stored}
 use Rattle.parameters.specs.WritingLaws.{content-of}
 use Rattle.parameters.specs.PlainLaws.{length-plain, compatible-plain-right}
-use Rattle.feature.specs.declared.Reason.{Reason}
 use Rattle.feature.specs.declared.Reason.the-variants.{Absent, Duplicate, Bad, Waiting, Disabled, Agreed, NotCompatible}
 use Rattle.feature.specs.declared.Setting.{Setting}
 use Rattle.feature.specs.declared.Peer.{Peer}
@@ -23,7 +21,7 @@ use Rattle.feature.specs.declared.Flags.{Flags}
 use Rattle.feature.specs.declared.Switches.{Switches}
 use Rattle.feature.specs.declared.Decision.{Decision}
 use Rattle.feature.specs.declared.Outcome.{Outcome}
-use Rattle.feature.specs.Outcome.{Received, operOf, maxOf, enableOf, willingOf, errorOf, parametersOf, configuration, lower, heldPeer, withoutPeer, withPeer, settled, outcome}
+use Rattle.feature.specs.Outcome.{operOf, maxOf, enableOf, willingOf, errorOf, parametersOf, configuration, lower, withoutPeer, withPeer, settled, outcome}
 use Rattle.feature.specs.RulesLaws.{judged, settled-by}
 
 -- ---- an outcome in two parts

@@ -1,6 +1,6 @@
 -- A feature's state, a law for each way out of its functions: premises in the form in which a test leaves them. Assumes nothing.
-use Prim.Native.Nat.{ℕ, _+_, _*_, _/_, _%_, _<_, _≤_}
-use mathlib.Core.Bool.{Bool, true, false, not, _&&_, Bool·beq, and-false, false≢true}
+use Prim.Native.Nat.{ℕ, _+_, _*_, _/_, _%_, _≤_}
+use mathlib.Core.Bool.{Bool, true, false, not, Bool·beq, and-false, false≢true}
 use mathlib.Core.Path.{_≡_, _∙_, refl, sym, ap, ap₂}
 use mathlib.Core.List.{List, [], _∷_}
 use lib.ListN.{length, take}
@@ -10,7 +10,7 @@ use Rattle.octets.specs.Octets.{same}
 use Rattle.octets.specs.Laws.{same-is, same-refl, sets-append}
 use Rattle.parameters.specs.Parameters.{featureNumber, content, noParameters, compatible, sameParameters}
 use native.Mathlib.Omega.{arith}
-use borrow.Author.Tests.{not-true, not-false, lt-ltb, le-ltb, eq-eqb, ne-eqb}
+use borrow.Author.Tests.{not-true, not-false, ne-eqb}
 use Rattle.parameters.specs.declared.Feature.{Feature}
 use Rattle.parameters.specs.declared.Feature.the-variants.{Groups, Flow, Applications}
 use Rattle.parameters.specs.declared.Parameters.{Parameters}

@@ -5,7 +5,7 @@ use native.Mathlib.Numerals.{add-one}
 use mathlib.Core.Path.{_≡_, refl, sym, _∙_}
 use mathlib.Core.Bool.{Bool, true, false}
 use mathlib.Core.List.{List, _∷_, _++_}
-use lib.ListN.{length, take, set, replicate, length-take, length-append, length-replicate}
+use lib.ListN.{length, take, set, replicate, length-take}
 use lib.Seq.{length-take-le, take-suc, take-all, take-append-seam, set-at, append-snoc}
 use borrow.Author.Tests.{eq-eqb, ne-eqb, eqb-true}
 use Rattle.octets.specs.Words.{_is_}
@@ -57,27 +57,9 @@ module _ {f : Feature} {p held : List ℕ} {n i : ℕ} where
 
 -- ---- what is held, as octets
 
-pub length-stored : (p : List ℕ) → length (stored p .octets) ≡ 96
-unfolding stored
-length-stored p = simp (length-append, length-take, length-replicate) (omega arith)
-
 pub content-stored : (p : List ℕ) → length p ≤ 96 → content (stored p) ≡ p
 unfolding content stored
 content-stored p h = take-append-seam (take 96 p) (replicate (96 - length p) 0) ∙ take-all 96 p h
-
--- the part `&o[..n]` that a caller takes, o the octets and n the clamped length: it is there, it has n octets, and it is the content
-pub part-within : (o : List ℕ) {n : ℕ} → length o ≡ 96 → n ≤ 96 → n ≤ length o
-part-within o l h = omega arith
-
-pub part-count : (o : List ℕ) {n : ℕ} → length o ≡ 96 → n ≤ 96 → n ≡ length (take n o)
-part-count o {n} l h = simp length-take (omega arith)
-
-pub content-part : (p : Parameters) {n : ℕ} → length (p .octets) ≡ 96 → n ≡ min (p .length) 96 → take n (p .octets) ≡ content p
-unfolding content
-content-part p {n} l e = rw e (rw l at (take-min (p .length) (p .octets)))
-
-pub content-clamped : (p : Parameters) → length (p .octets) ≡ 96 → take (min (p .length) 96) (p .octets) ≡ content p
-content-clamped p l = content-part p l refl
 
 -- ---- equality
 

@@ -120,10 +120,6 @@ module _ (p : List ℕ) (i : ℕ) (q : List ℕ) (j : ℕ) where
   unfolding sameName
   name-right = rw (id-plain q j, selector-plain q j)
 
-  clash-left : clash (plainFrom 0 p) i q j ≡ clash p i q j
-  unfolding clash
-  clash-left = rw (name-left, map-plain p i)
-
   clash-right : clash p i (plainFrom 0 q) j ≡ clash p i q j
   unfolding clash
   clash-right = rw (name-right, map-plain q j)
@@ -151,19 +147,9 @@ pub local-plain : (f : Feature) (p : List ℕ) → validLocal f (plain f p) ≡ 
 unfolding validLocal
 local-plain f p = rw (valid-plain f p, values-plain f p)
 
-pub compatible-plain-left : (f : Feature) (p q : List ℕ) → compatible f (plain f p) q ≡ compatible f p q
-unfolding compatible plain clearOf
-compatible-plain-left Groups p q = refl
-compatible-plain-left Flow p q = refl
-compatible-plain-left Applications p q =
-    rw (count-plain p) (all-same (entryCount p) 0 (λ i. all-same (entryCount q) 0 (λ j. ap not (clash-left p i q j))))
-
 pub compatible-plain-right : (f : Feature) (p q : List ℕ) → compatible f p (plain f q) ≡ compatible f p q
 unfolding compatible plain clearOf
 compatible-plain-right Groups p q = refl
 compatible-plain-right Flow p q = refl
 compatible-plain-right Applications p q =
     all-same (entryCount p) 0 (λ i. rw (count-plain q) (all-same (entryCount q) 0 (λ j. ap not (clash-right p i q j))))
-
-pub compatible-plain : (f : Feature) (p q : List ℕ) → compatible f (plain f p) (plain f q) ≡ compatible f p q
-compatible-plain f p q = compatible-plain-left f p (plain f q) ∙ compatible-plain-right f p q

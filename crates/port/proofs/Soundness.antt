@@ -15,7 +15,6 @@ use Rattle.tlv.specs.declared.Contents.{Contents}
 use Rattle.tlv.specs.Layout.{valueOf}
 use Rattle.parameters.specs.declared.Feature.{Feature}
 use Rattle.parameters.specs.declared.Feature.the-variants.{Groups, Flow, Applications}
-use Rattle.parameters.specs.declared.Parameters.{Parameters}
 use Rattle.parameters.specs.Parameters.{valid, plain, stored, content}
 use Rattle.parameters.specs.FeatureLaws.{valid-length}
 use Rattle.parameters.specs.PlainLaws.{length-plain, plain-plain, valid-plain}

@@ -1,7 +1,7 @@
 -- The events of a port, a law for each way out of its functions: premises in the form in which a test or a call leaves them.
 -- Assumes nothing.
 use Prim.Native.Nat.{ℕ}
-use mathlib.Core.Bool.{Bool, true, false, not, _&&_, _||_, Bool·beq, and-false}
+use mathlib.Core.Bool.{Bool, true, false, not, _&&_, _||_, Bool·beq}
 use mathlib.Core.Path.{_≡_, _∙_, refl, sym, ap}
 use mathlib.Core.List.{List}
 use borrow.Author.Tests.{not-true, not-false, eq-eqb, ne-eqb}
@@ -99,11 +99,6 @@ module _ (r t : Reason) {m n : ℕ} (em : m ≡ reasonNumber r) (en : n ≡ reas
   pub becomes-new : {x : Raised} → (m ≡ n → ⊥) → x ≡ noticed t → x ≡ becomes r t
   unfolding becomes
   becomes-new e h = simp (h, ← em, ← en, ne-eqb m n e)
-
-pub raise-is : (x : Raised) (p q : Port) {g w a : Raised} → g ≡ becomes (p .groups .outcome .reason) (q .groups .outcome .reason)
-    → w ≡ becomes (p .flow .outcome .reason) (q .flow .outcome .reason) → a ≡ becomes (p .applications .outcome .reason) (q .applications .outcome .reason)
-    → record { port = x; groups = g; flow = w; applications = a } ≡ raises x p q
-raise-is x p q eg ew ea = simp (eg, ew, ea)
 
 -- ---- flags
 

@@ -6,7 +6,7 @@ use native.Mathlib.Omega.{arith}
 use mathlib.Core.Bool.{Bool, true, false, not, _&&_, _||_, Bool·beq}
 use mathlib.Core.Path.{_≡_, _∙_, refl, sym, ap}
 use mathlib.Core.List.{List, [], _∷_}
-use lib.ListN.{length, take, drop, length-take}
+use lib.ListN.{length, take, drop}
 use borrow.Author.Tests.{not-true, not-false, lt-ltb, le-ltb, eq-eqb, ne-eqb}
 use Rattle.octets.specs.Words.{if_then_else_, _below_, _is_}
 use Rattle.octets.specs.Octets.{at, number4, same}
@@ -27,8 +27,8 @@ use Rattle.feature.specs.declared.State.{State}
 use Rattle.feature.specs.declared.steps.Course.{Course}
 use Rattle.feature.specs.declared.steps.Course.the-variants.{Twice, OtherVersion, Exchange}
 use Rattle.feature.specs.declared.steps.Turn.{Turn}
-use Rattle.feature.specs.Outcome.{Received, lower}
-use Rattle.feature.specs.State.{next, flags, headed, subTlv, controlTwice, acknowledged, received, changed, marked}
+use Rattle.feature.specs.Outcome.{lower}
+use Rattle.feature.specs.State.{flags, headed, subTlv, controlTwice, acknowledged, received, changed, marked}
 use Rattle.feature.specs.TurnLaws.{Same, after, turnOf, heldAfter, renewed, changedBy, changed-by, after-same, renewed-after}
 use Rattle.port.specs.declared.handling.Heard.{Heard}
 use Rattle.port.specs.declared.handling.Change.{Change}

@@ -1,8 +1,8 @@
 -- What every reachable port has: lengths, ranges, Oper at most Max, valid settings. (In antt an array is a list of any length and a
 -- number has no bound, so theorems over ports need it.)
-use Prim.Native.Nat.{ℕ, _<_, _≤_, _^_}
+use Prim.Native.Nat.{_<_, _≤_, _^_}
 use mathlib.Core.Path.{_≡_}
-use mathlib.Core.Bool.{Bool, true, false}
+use mathlib.Core.Bool.{true, false}
 use Rattle.parameters.specs.declared.Feature.{Feature}
 use Rattle.parameters.specs.declared.Parameters.{Parameters}
 use Rattle.parameters.specs.Parameters as parameters

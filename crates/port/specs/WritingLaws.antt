@@ -23,7 +23,6 @@ use Rattle.feature.specs.State.{value, headed, subTlv, changed}
 use Rattle.feature.specs.StateLaws.{Sized, changed-not}
 use Rattle.port.specs.declared.Control.{Control}
 use Rattle.port.specs.declared.Port.{Port}
-use Rattle.port.specs.declared.Written.{Written}
 use Rattle.port.specs.declared.Written.the-variants.{Octets, Refused}
 use Rattle.port.specs.Parts.{featureOf, running}
 use Rattle.port.specs.Writing.{controlValue, subTlvs, frame, toWrite, asks, written, output, Wrote}

@@ -7,13 +7,12 @@ use mathlib.Core.Path.{_≡_, refl, sym, ap, _∙_}
 use mathlib.Core.Bool.{Bool, true, false, not, _&&_, Bool·beq}
 use mathlib.Core.List.{List, [], _∷_, _++_}
 use lib.Dec.{leb, eqb}
-use lib.ListN.{length, take, drop, set, replicate, drop-of-length-le, length-set, length-replicate}
+use lib.ListN.{length, drop, set, replicate, drop-of-length-le, length-set, length-replicate}
 use lib.Seq.{drop-cons, set-at, append-snoc, getD-set-same, getD-set-other}
-use borrow.Author.Tests.{le-ltb, le-leb, lt-leb, eq-eqb, ne-eqb, leb-true, eqb-true, eqb-false, not-true, not-false}
+use borrow.Author.Tests.{le-leb, lt-leb, eq-eqb, ne-eqb, leb-true, eqb-true, eqb-false, not-true, not-false}
 use Rattle.octets.specs.Words.{if_then_else_, _below_, _atmost_, _is_}
 use Rattle.octets.specs.Octets.{at}
-use Rattle.octets.specs.Laws.{and-left, and-right}
-use Rattle.script.specs.declared.text.Number.{Number}
+use Rattle.octets.specs.Laws.{and-left}
 use Rattle.script.specs.declared.text.Number.the-variants.{Is, Not}
 use Rattle.script.specs.Text.{isDigit, decimalDigits, decimalFrom, decimal, isNumber, number, nibble, hexDigits, isOctets, pairAt, listed, octetsOf}
 use Rattle.script.specs.Lines.{filled}
@@ -33,10 +32,6 @@ module _ (c : ℕ) where
   pub digit-least : isDigit c ≡ true → 48 ≤ c
   unfolding isDigit
   digit-least e = leb-true 48 c (and-left (48 atmost c) (c atmost 57) e)
-
-  pub digit-most : isDigit c ≡ true → c ≤ 57
-  unfolding isDigit
-  digit-most e = leb-true c 57 (and-right (48 atmost c) (c atmost 57) e)
 
   pub digit-fits : {b : Bool} → b ≡ isDigit c → not b ≡ false → 48 ≤ c
   digit-fits {b} e t = digit-least (sym e ∙ not-false b t)
