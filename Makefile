@@ -9,8 +9,9 @@ VERDICT := .ci/verdict
 
 .PHONY: run test bench tshark
 
+# Only what rt says of each crate is shown; the rest stays in target/log.
 run:
-	rt check pair
+	rt check pair | grep --line-buffered '^rt:'
 	@echo
 	target/bin/pair < examples/two-recorders.txt
 
