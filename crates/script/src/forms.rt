@@ -282,7 +282,7 @@ fn entries_length(n: usize) -> usize
     (n - 3) / 3 * 6
 }
 
-// How many octets the parameters have.
+// How many octets the parameters have, of as many fields as a line can hold.
 pub fn parameter_count(f: Form, n: usize) -> usize
     requires { ⌜ n ≤ 54 ⌝ }
     ensures { λ r. ⌜ (r ≡ parameterCount f n) × (r ≤ 102) ⌝ }

@@ -110,7 +110,7 @@ pub fn hex_digits(w: &[u8]) -> bool
     good
 }
 
-// Octet `i` of a run of pairs of hex digits.
+// Octet `i` of a run of pairs of hex digits, of as many as a line can hold.
 pub fn pair_at(w: &[u8], i: usize) -> u8
     requires { ⌜ i < 1024 ⌝ }
     ensures { λ r. ⌜ r ≡ pairAt (now (w .entry)) i ⌝ }

@@ -48,7 +48,7 @@ pub fn put_all(out: &mut [u8], at: usize, s: &[u8]) -> usize {
     next
 }
 
-// The end of a part of `room` octets from `at`, or of what is there where that is less.
+// The end of a part of `room` octets from `at`, which the caller has found to be inside, or of what is there where that is less.
 pub fn part_end(all: usize, at: usize, room: usize) -> usize
     requires { ⌜ at ≤ all ⌝ }
     ensures { λ r. ⌜ (at ≤ r) × (r ≤ all) ⌝ }
