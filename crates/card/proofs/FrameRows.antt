@@ -16,8 +16,8 @@ use Rattle.tlv.specs.declared.Refusal.the-variants.{NotDcbx, WrongLength, PastE
 use Rattle.tlv.specs.declared.Found.{Found}
 use Rattle.tlv.specs.declared.Contents.{Contents}
 use Rattle.tlv.specs.declared.Walk.{Walk}
-use Rattle.tlv.specs.declared.Frame.{Frame}
-use Rattle.tlv.specs.declared.Frame.the-variants.{Refused, Accepted}
+use Rattle.tlv.specs.declared.Reading.{Reading}
+use Rattle.tlv.specs.declared.Reading.the-variants.{Refused, Accepted}
 use Rattle.tlv.specs.Refusals.{refusalNumber}
 use Rattle.tlv.specs.Layout.{fixedOctets, typeAt, lengthAt, counts, foundAgain, noted, noContents, onward, walkFrom, walked, valueOf, isDcbx, judgedControl, readFrame}
 use Rattle.tlv.specs.Laws.{head-past, head-whole, walked-inside}
@@ -145,7 +145,7 @@ row5 : (o : List ℕ) → walked o .past ≡ pastEnd (length o) (drop 6 o)
 unfolding walked
 row5 o = walk-ends o (length o) 6 noContents (omega arith) .past
 
-abbrev pub readNumber : Frame → ℕ
+abbrev pub readNumber : Reading → ℕ
 readNumber (Refused why) = refusalNumber why
 readNumber (Accepted c) = 0
 

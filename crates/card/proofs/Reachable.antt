@@ -10,7 +10,7 @@ use Rattle.notices.specs.declared.Log.{Log}
 use Rattle.notices.specs.Notices.{emptyLog}
 use Rattle.notices.specs.LogModel.{Sound, logSteps}
 use Rattle.notices.specs.LogModel as log
-use Rattle.notices.specs.Log.{empty-sound, writes-sound, steps-sound}
+use Rattle.notices.specs.LogLaws.{empty-sound, writes-sound, steps-sound}
 use Rattle.port.specs.declared.Event.{Event}
 use Rattle.port.specs.PortEvents.{inOrder, refused, createdPort, blankPort, settingsValid, made}
 use Rattle.port.specs.PortEvents as events

@@ -8,8 +8,8 @@ use lib.ListN.{length, drop, getD}
 use Rattle.octets.specs.Words.{if_then_else_, _below_, _is_}
 use Rattle.tlv.specs.declared.Refusal.{Refusal}
 use Rattle.tlv.specs.declared.Refusal.the-variants.{NotRunning, SeveralNeighbours, NotDcbx, WrongLength, PastEnd, NoControl, ControlLength, ControlVersion, InvalidSetting, ShortOutput, UnknownFeature, NoNotice}
-use Rattle.tlv.specs.declared.Frame.{Frame}
-use Rattle.tlv.specs.declared.Frame.the-variants as read
+use Rattle.tlv.specs.declared.Reading.{Reading}
+use Rattle.tlv.specs.declared.Reading.the-variants as read
 use Rattle.tlv.specs.Refusals.{refusalNumber}
 use Rattle.tlv.specs.Layout.{readFrame}
 use Rattle.parameters.specs.declared.Feature.{Feature}
@@ -99,7 +99,7 @@ module _ (l : Log) (p : Port) where
   told-done : (e : Event) → eventNumber (e .answer) ≡ 0 → Told l p e 0
   told-done e d = record { number = d; stays = λ h. absurd (h d) }
 
-  told-frame : (o : List ℕ) (a b : Bool) (x : Frame) (n : ℕ) → readNumber x ≡ n →
+  told-frame : (o : List ℕ) (a b : Bool) (x : Reading) (n : ℕ) → readNumber x ≡ n →
       Told l p (if not a then refused NotRunning p else if b then refused SeveralNeighbours p else given o x p) (if not a then 1 else if b then 2 else n)
   unfolding given accepted frameEvent refusalNumber
   told-frame o false b x n e = told-refused NotRunning

@@ -9,8 +9,8 @@ use lib.Seq.{take-append-seam}
 use Rattle.octets.specs.Words.{if_then_else_, _below_}
 use Rattle.tlv.specs.declared.Refusal.{Refusal}
 use Rattle.tlv.specs.declared.Refusal.the-variants as refusal
-use Rattle.tlv.specs.declared.Frame.{Frame}
-use Rattle.tlv.specs.declared.Frame.the-variants.{Refused, Accepted}
+use Rattle.tlv.specs.declared.Reading.{Reading}
+use Rattle.tlv.specs.declared.Reading.the-variants.{Refused, Accepted}
 use Rattle.tlv.specs.Layout.{readFrame}
 use Rattle.notices.specs.declared.Log.{Log}
 use Rattle.notices.specs.Notices.{loggedAll}
@@ -46,7 +46,7 @@ write-leaves p out n e = write-by p out n (running p) (length out below length (
 
 -- ---- refused frames
 
-refused-by : (l : Log) (p : Port) (o : List ℕ) (why : Refusal) (a b : Bool) (x : Frame) →
+refused-by : (l : Log) (p : Port) (o : List ℕ) (why : Refusal) (a b : Bool) (x : Reading) →
     (if not a then refused refusal.NotRunning p else if b then refused refusal.SeveralNeighbours p else given o x p) .answer ≡ answer.Refused why →
     kept l (if not a then refused refusal.NotRunning p else if b then refused refusal.SeveralNeighbours p else given o x p) .card
     ≡ record { port = p; log = l }

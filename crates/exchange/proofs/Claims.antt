@@ -15,7 +15,7 @@ use Rattle.feature.specs.State.{flags, fresh}
 use Rattle.port.specs.declared.Port.{Port}
 use Rattle.port.specs.Parts.{featureOf}
 use Rattle.port.specs.Sound.{SoundPort}
-use Rattle.exchange.specs.Rounds.{Side, sideOf, receivedAlone, ruled, alone, settledOutcome}
+use Rattle.exchange.specs.Rounds.{Side, sideOf, receivedAlone, ruled, alone, expected}
 use Rattle.exchange.specs.Demand3.{Agreed, Truthful}
 use Rattle.exchange.proofs.Core.{Settings, advertised, Machine, Core}
 use Rattle.exchange.proofs.View.{settings, view}
@@ -27,12 +27,12 @@ use Rattle.exchange.proofs.Laws.{lower-of-two}
 pub fit : (p : Port) → SoundPort p → Fit (settings p)
 fit p h f = h .features f .setting .desired
 
-settled-as : (s t : Settings) (p : Core) → Full s t p → Idle s p → (f : Feature) (b : Bool) → advertised s f ≡ b →
-    p .feat f .outcome ≡ settledOutcome f (s .of f) (t .of f)
-unfolding settledOutcome
-settled-as s t p h k f true a =
+expected-as : (s t : Settings) (p : Core) → Full s t p → Idle s p → (f : Feature) (b : Bool) → advertised s f ≡ b →
+    p .feat f .outcome ≡ expected f (s .of f) (t .of f)
+unfolding expected
+expected-as s t p h k f true a =
     h f a ∙ sym (ap (λ b. if b then alone f (s .of f) (t .of f) else fresh (s .of f .max) (s .of f .setting) .outcome) a)
-settled-as s t p h k f false a =
+expected-as s t p h k f false a =
     ap (λ (x : Machine). x .outcome) (k f a)
     ∙ sym (ap (λ b. if b then alone f (s .of f) (t .of f) else fresh (s .of f .max) (s .of f .setting) .outcome) a)
 
@@ -45,23 +45,23 @@ ruled-version f own peer error b =
     ap (λ b. outcome f (own .max) (own .setting) (own .max) (if b then record { count = 1; value = v } else record { count = 0; value = [] }) .oper) b
     ∙ lower-of-two f (own .max) (own .setting) (own .max) (record { count = 1; value = v }) refl (omega arith) (min-le-right (own .max) (peer .max))
 
-settled-version : (f : Feature) (own peer : Side) → own .setting .advertise ≡ true → peer .setting .advertise ≡ true →
-    settledOutcome f own peer .oper ≡ lower (own .max) (peer .max)
-unfolding settledOutcome alone
-settled-version f own peer a b =
+expected-version : (f : Feature) (own peer : Side) → own .setting .advertise ≡ true → peer .setting .advertise ≡ true →
+    expected f own peer .oper ≡ lower (own .max) (peer .max)
+unfolding expected alone
+expected-version f own peer a b =
     ap (λ b. (if b then alone f own peer else fresh (own .max) (own .setting) .outcome) .oper) a ∙ ruled-version f own peer _ b
 
 module _ (own peer p : Port) (q : Core) (e : view p ≡ q) where
   abbrev p-outcome : Feature → Type 0
-  p-outcome f = featureOf p f .outcome ≡ settledOutcome f (sideOf own f) (sideOf peer f)
+  p-outcome f = featureOf p f .outcome ≡ expected f (sideOf own f) (sideOf peer f)
 
   pub agreed : settings p ≡ settings own → (k : ℕ) (took taken : Bool) → After5 (settings own) (settings peer) q k took taken → Idle (settings own) q → Agreed own peer p
   agreed s k took taken h i =
-      let o : (f : Feature) → p-outcome f = λ f. ap (λ (x : Core). x .feat f .outcome) e ∙ settled-as (settings own) (settings peer) q (h .full) i f _ refl in
+      let o : (f : Feature) → p-outcome f = λ f. ap (λ (x : Core). x .feat f .outcome) e ∙ expected-as (settings own) (settings peer) q (h .full) i f _ refl in
       record {
         acknowledged = ap (λ (x : Core). x .rcvd) e ∙ h .done .rcvd ∙ sym (ap (λ (x : Core). x .seq) e);
         version = ap (λ (x : Core). x .oper) e ∙ h .low;
-        versions = λ f a b. ap (λ (x : Outcome). x .oper) (o f) ∙ settled-version f (sideOf own f) (sideOf peer f) a b;
+        versions = λ f a b. ap (λ (x : Outcome). x .oper) (o f) ∙ expected-version f (sideOf own f) (sideOf peer f) a b;
         outcome = o;
         configuration = λ f i. rules.configuration (s i .of f .setting) (o f i);
       }

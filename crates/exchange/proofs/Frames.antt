@@ -7,20 +7,20 @@ use mathlib.Core.List.{List, [], _++_}
 use lib.ListN.{length, length-append}
 use borrow.Author.Tests.{eqb-true}
 use Rattle.octets.specs.Words.{if_then_else_}
-use Rattle.octets.specs.Octets.{at, number4, octets4}
+use Rattle.octets.specs.Octets.{at, number4, octets4, headed, head}
 use Rattle.octets.specs.Laws.{and-left}
 use Rattle.tlv.specs.declared.Contents.{Contents}
-use Rattle.tlv.specs.declared.Frame.the-variants.{Accepted}
-use Rattle.tlv.specs.Layout.{head, fixedOctets, frameHead, walked, readFrame, valueOf}
-use Rattle.tlv.specs.Values.{Counted, Values, Part, Parts, partsOctets, partCounted, partsValues, LaidOut}
-use Rattle.tlv.specs.Written.{ReadBack, read-parts}
+use Rattle.tlv.specs.declared.Reading.the-variants.{Accepted}
+use Rattle.tlv.specs.Layout.{fixedOctets, frameHead, walked, readFrame, valueOf}
+use Rattle.tlv.specs.ValuesLaws.{Counted, Values, Part, Parts, partsOctets, partCounted, partsValues, LaidOut}
+use Rattle.tlv.specs.ReadBackLaws.{ReadBack, read-parts}
 use Rattle.parameters.specs.declared.Feature.{Feature}
 use Rattle.parameters.specs.declared.Feature.the-variants.{Groups, Flow, Applications}
 use Rattle.parameters.specs.Parameters.{featureNumber, validGroups, validFlow, valid, content}
 use Rattle.parameters.specs.FeatureLaws.{valid-length}
 use Rattle.feature.specs.declared.State.{State}
 use Rattle.feature.specs.Outcome.{Received}
-use Rattle.feature.specs.State.{value, headed, subTlv}
+use Rattle.feature.specs.State.{value, subTlv}
 use Rattle.port.specs.declared.Port.{Port}
 use Rattle.port.specs.Writing.{controlValue, subTlvs, frame}
 use Rattle.port.specs.Handling.{hasOf, message}

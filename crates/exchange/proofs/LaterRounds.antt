@@ -59,12 +59,12 @@ module _ (s t : Settings) (good : Fit t) (p q : Core) (took taken : Bool) where
         none = λ n. done-stays s lowest p (message t q) _ z (a .none n) refl;
       })
 
-  settle-numbers : (y : Bool) → advertises s ≡ y → (e : Bool) → taken ≡ e → Quiet s lowest p (message t q) → After4 s t p (q .ack) took taken →
+  judge-numbers : (y : Bool) → advertises s ≡ y → (e : Bool) → taken ≡ e → Quiet s lowest p (message t q) → After4 s t p (q .ack) took taken →
       Done s (gated true lowest s p (message t q)) (p .seq)
   unfolding message
-  settle-numbers true y true e z a = done-stays s lowest p (message t q) _ z (a .fast y e) refl
-  settle-numbers true y false e z a = done s lowest p (message t q) _ z (a .slow y e) refl
-  settle-numbers false y e′ e z a = done-stays s lowest p (message t q) _ z (a .none y) refl
+  judge-numbers true y true e z a = done-stays s lowest p (message t q) _ z (a .fast y e) refl
+  judge-numbers true y false e z a = done s lowest p (message t q) _ z (a .slow y e) refl
+  judge-numbers false y e′ e z a = done-stays s lowest p (message t q) _ z (a .none y) refl
 
   pub round5 : After4 s t p (q .ack) took taken → After4 t s q (p .ack) taken took → After5 s t here (there .ack) took taken
   unfolding gated message
@@ -78,7 +78,7 @@ module _ (s t : Settings) (good : Fit t) (p q : Core) (took taken : Bool) where
         version = version-next s t p q lowest good (bound-of t s q (b .version));
         error = error-next s t p q lowest good (b .version);
         full = full-next s t p q lowest good (b .version) (b .error);
-        done = settle-numbers (advertises s) refl taken refl z a;
+        done = judge-numbers (advertises s) refl taken refl z a;
       })
 
   pub stays : After5 s t p (q .ack) took taken → After5 t s q (p .ack) taken took → After5 s t here (there .ack) took taken

@@ -14,13 +14,13 @@ use Rattle.feature.specs.declared.Reason.the-variants.{Bad, Waiting}
 use Rattle.feature.specs.declared.Setting.{Setting}
 use Rattle.feature.specs.declared.Outcome.{Outcome}
 use Rattle.feature.specs.declared.State.{State}
-use Rattle.feature.specs.Outcome.{Received, operOf, maxOf, parametersOf, lower, heldPeer, withoutPeer, settled, outcome}
-use Rattle.feature.specs.RulesLaws.{settled-oper}
+use Rattle.feature.specs.Outcome.{Received, operOf, maxOf, parametersOf, lower, heldPeer, withoutPeer, judged, outcome}
+use Rattle.feature.specs.RulesLaws.{judged-oper}
 use Rattle.feature.specs.State.{acknowledged}
 use Rattle.port.specs.Sound.{SoundParameters}
 use Rattle.exchange.specs.Rounds.{Side, ruled}
 use Rattle.port.proofs.Tests.{or-cases}
-use Rattle.exchange.proofs.Outcomes.{settled-error, alone-absent, alone-met}
+use Rattle.exchange.proofs.Outcomes.{judged-error, alone-absent, alone-met}
 
 -- one readable sub-TLV: Oper becomes the lower of the two Max, whatever was received
 pub lower-of-two : (f : Feature) (max : ℕ) (s : Setting) (oper : ℕ) (r : Received) →
@@ -33,11 +33,11 @@ lower-of-two f max s oper r one long within =
     by : (a b : Bool) →
         (if not a then withoutPeer Waiting (lower max (maxOf (r .value))) false
         else if not b then withoutPeer Bad (lower max (maxOf (r .value))) true
-        else settled f s (lower max (maxOf (r .value))) (heldPeer f (r .value))) .oper
+        else judged f s (lower max (maxOf (r .value))) (heldPeer f (r .value))) .oper
         ≡ lower max (maxOf (r .value))
     by false b = refl
     by true false = refl
-    by true true = settled-oper f s (lower max (maxOf (r .value))) (heldPeer f (r .value))
+    by true true = judged-oper f s (lower max (maxOf (r .value))) (heldPeer f (r .value))
 
 -- a feature is Syncd after step 3 exactly if it was, or if its FeatureSeqNo equals both RcvdAckNo and SeqNo
 pub syncd-law : (rcvd seq : ℕ) (x : State) →
@@ -60,5 +60,5 @@ error-alone f own peer d e h = by (peer .setting .advertise) refl
     by false a = ap (λ (x : Outcome). x .error) (alone-absent f own peer d a ∙ sym (alone-absent f own peer e a))
     by true a =
         ap (λ (x : Outcome). x .error) (alone-met f own peer d h a)
-        ∙ settled-error f (own .setting) _ peer d e
+        ∙ judged-error f (own .setting) _ peer d e
         ∙ sym (ap (λ (x : Outcome). x .error) (alone-met f own peer e h a))

@@ -14,13 +14,13 @@ use Rattle.feature.specs.declared.Setting.{Setting}
 use Rattle.feature.specs.declared.Peer.{Peer}
 use Rattle.feature.specs.declared.Outcome.{Outcome}
 use Rattle.feature.specs.declared.Reason.the-variants.{Absent, Bad, Waiting}
-use Rattle.feature.specs.Outcome.{Received, noPeer, withoutPeer, settled, outcome}
+use Rattle.feature.specs.Outcome.{Received, noPeer, withoutPeer, judged, outcome}
 use Rattle.feature.specs.State.{flags}
 use Rattle.port.specs.Sound.{SoundParameters}
 use Rattle.exchange.specs.Rounds.{Side, receivedAlone, ruled}
 use Rattle.exchange.proofs.Core.{written, changed}
 use Rattle.port.proofs.Tests.{is-same, beq-same}
-use Rattle.feature.specs.RulesLaws.{judged, settled-by, settled-oper, settled-peer}
+use Rattle.feature.specs.RulesLaws.{judgedBy, judged-by, judged-oper, judged-peer}
 
 -- the version that the two settings lead to, if the peer advertises
 unfoldable pub version : Bool → Side → Side → ℕ
@@ -35,20 +35,20 @@ version-le true own peer = min-le-left _ _
 -- ---- rules 6 to 9, over their three tests
 
 -- the Error does not depend on the peer's error flag
-judged-error : (a b c willing : Bool) (oper : ℕ) (p q : Peer) → judged a b c willing oper p .error ≡ judged a b c willing oper q .error
-unfolding judged
-judged-error false b c willing oper p q = refl
-judged-error true false c willing oper p q = refl
-judged-error true true true willing oper p q = refl
-judged-error true true false willing oper p q = refl
+judgedBy-error : (a b c willing : Bool) (oper : ℕ) (p q : Peer) → judgedBy a b c willing oper p .error ≡ judgedBy a b c willing oper q .error
+unfolding judgedBy
+judgedBy-error false b c willing oper p q = refl
+judgedBy-error true false c willing oper p q = refl
+judgedBy-error true true true willing oper p q = refl
+judgedBy-error true true false willing oper p q = refl
 
 -- what is held of a peer with an error flag
 abbrev pub heldOf : Side → Bool → Peer
 heldOf x error = record { held = true; enable = x .setting .enable; willing = x .setting .willing; error = error; parameters = x .setting .desired }
 
-pub settled-error : (f : Feature) (s : Setting) (oper : ℕ) (peer : Side) (e d : Bool) →
-    settled f s oper (heldOf peer e) .error ≡ settled f s oper (heldOf peer d) .error
-settled-error f s oper peer e d = simp settled-by (judged-error _ _ _ (s .willing) oper _ _)
+pub judged-error : (f : Feature) (s : Setting) (oper : ℕ) (peer : Side) (e d : Bool) →
+    judged f s oper (heldOf peer e) .error ≡ judged f s oper (heldOf peer d) .error
+judged-error f s oper peer e d = simp judged-by (judgedBy-error _ _ _ (s .willing) oper _ _)
 
 -- ---- flags are read as they are written
 
@@ -94,7 +94,7 @@ ranked above same good f own old low p =
     if above then withoutPeer Bad old true
     else if not same then withoutPeer Waiting low false
     else if not good then withoutPeer Bad low true
-    else settled f (own .setting) low p
+    else judged f (own .setting) low p
 
 outcome-by : (f : Feature) (own peer : Side) (old oper : ℕ) (error : Bool) → SoundParameters f (peer .setting .desired) →
     outcome f (own .max) (own .setting) old (sent1 oper peer error)
@@ -113,14 +113,14 @@ outcome-by f own peer old oper error h =
 ranked-oper : (b : Bool) (f : Feature) (own : Side) (old low : ℕ) (p : Peer) → ranked false b true f own old low p .oper ≡ low
 unfolding ranked
 ranked-oper false f own old low p = refl
-ranked-oper true f own old low p = settled-oper f (own .setting) low p
+ranked-oper true f own old low p = judged-oper f (own .setting) low p
 
 -- the peer that is held afterwards, if one is
 ranked-peer : (a b : Bool) (f : Feature) (own : Side) (old low : ℕ) (p : Peer) (P : Peer → Type 0) → P noPeer → P p → P (ranked a b true f own old low p .peer)
 unfolding ranked
 ranked-peer true b f own old low p P n h = n
 ranked-peer false false f own old low p P n h = n
-ranked-peer false true f own old low p P n h = rw settled-peer h
+ranked-peer false true f own old low p P n h = rw judged-peer h
 
 pub peer-is : (adv : Bool) (f : Feature) (own peer : Side) (old : ℕ) (o : Outcome) (P : Peer → Type 0) → SoundParameters f (peer .setting .desired) →
     P noPeer → (adv ≡ true → P (heldOf peer (o .error))) → P (outcome f (own .max) (own .setting) old (written adv peer o) .peer)
@@ -137,7 +137,7 @@ lower-of-two true f own peer old o h k = rw (outcome-by f own peer old (o .oper)
 
 -- the received Oper is the lower of the two Max
 in-step : (f : Feature) (own peer : Side) (old oper : ℕ) (error : Bool) → SoundParameters f (peer .setting .desired) → oper ≡ min (own .max) (peer .max) →
-    outcome f (own .max) (own .setting) old (sent1 oper peer error) ≡ settled f (own .setting) (min (own .max) (peer .max)) (heldOf peer error)
+    outcome f (own .max) (own .setting) old (sent1 oper peer error) ≡ judged f (own .setting) (min (own .max) (peer .max)) (heldOf peer error)
 unfolding ranked
 in-step f own peer old oper error h e =
     let k : oper ≤ peer .max = rw e (min-le-right _ _) in
@@ -150,7 +150,7 @@ unfolding ruled receivedAlone outcome
 alone-absent f own peer error e = rw e
 
 pub alone-met : (f : Feature) (own peer : Side) (error : Bool) → SoundParameters f (peer .setting .desired) → peer .setting .advertise ≡ true →
-    ruled f own peer error ≡ settled f (own .setting) (min (own .max) (peer .max)) (heldOf peer error)
+    ruled f own peer error ≡ judged f (own .setting) (min (own .max) (peer .max)) (heldOf peer error)
 unfolding ruled receivedAlone
 alone-met f own peer error h e = rw e (in-step f own peer (own .max) (min (own .max) (peer .max)) error h refl)
 
@@ -162,7 +162,7 @@ unfolding written outcome
 error-final false f own peer old o h a k = rw (alone-absent f own peer false a)
 error-final true f own peer old o h a k =
     ap (λ (x : Outcome). x .error) (in-step f own peer old (o .oper) (o .error) h (k refl))
-    ∙ settled-error f (own .setting) _ peer (o .error) false
+    ∙ judged-error f (own .setting) _ peer (o .error) false
     ∙ sym (ap (λ (x : Outcome). x .error) (alone-met f own peer false h a))
 
 -- and its Error is final too: the whole outcome is
@@ -173,7 +173,7 @@ unfolding written outcome
 outcome-final false f own peer old o error h a k e = sym (alone-absent f own peer error a)
 outcome-final true f own peer old o error h a k e =
     in-step f own peer old (o .oper) (o .error) h (k refl)
-    ∙ ap (λ x. settled f (own .setting) (min (own .max) (peer .max)) (heldOf peer x)) (e refl)
+    ∙ ap (λ x. judged f (own .setting) (min (own .max) (peer .max)) (heldOf peer x)) (e refl)
     ∙ sym (alone-met f own peer error h a)
 
 -- no change: Oper and Error are the same

@@ -4,14 +4,14 @@ use mathlib.Core.Path.{_≡_, refl, ap, _∙_}
 use mathlib.Core.Bool.{Bool, true, false, _&&_, Bool·beq, and-true, and-false}
 use mathlib.Core.List.{[]}
 use Rattle.octets.specs.Words.{if_then_else_, _is_}
-use Rattle.octets.specs.Octets.{same}
+use Rattle.octets.specs.Octets.{same, headed}
 use Rattle.octets.specs.Laws.{same-refl}
 use Rattle.parameters.specs.declared.Feature.{Feature}
 use Rattle.parameters.specs.Parameters.{featureNumber, content}
 use Rattle.feature.specs.declared.Outcome.{Outcome}
 use Rattle.feature.specs.declared.State.{State}
 use Rattle.feature.specs.Outcome.{Received, outcome}
-use Rattle.feature.specs.State.{next, flags, value, headed, withOutcome, subTlv}
+use Rattle.feature.specs.State.{next, flags, value, withOutcome, subTlv}
 use Rattle.feature.specs.State as state
 use Rattle.exchange.specs.Rounds.{Side}
 use Rattle.exchange.proofs.Core as core

@@ -14,7 +14,7 @@ use Rattle.port.specs.Parts.{featureOf, running}
 use Rattle.port.specs.PortEvents.{freshPort}
 use Rattle.port.specs.Sound.{SoundPort}
 use Rattle.card.specs.declared.Card.{Card}
-use Rattle.exchange.specs.Rounds.{Ends, Round, Lossy, Side, sideOf, rounds, lossyRounds, execAll, Proper, settledOutcome}
+use Rattle.exchange.specs.Rounds.{Ends, Round, Lossy, Side, sideOf, rounds, lossyRounds, execAll, Proper, expected}
 
 -- "Just started means running, several-neighbours flag off, and the fresh state with its send rule done, whatever the log holds."
 pub record JustStarted (c : Card) : Type 0 where
@@ -37,9 +37,9 @@ pub record Agreed (own peer p : Port) : Type 0 where
   pub version : p .control .oper ≡ lower (own .control .max) (peer .control .max)
   pub versions : (f : Feature) → featureOf own f .setting .advertise ≡ true → featureOf peer f .setting .advertise ≡ true
       → featureOf p f .outcome .oper ≡ lower (featureOf own f .max) (featureOf peer f .max)
-  pub outcome : (f : Feature) → featureOf p f .outcome ≡ settledOutcome f (sideOf own f) (sideOf peer f)
+  pub outcome : (f : Feature) → featureOf p f .outcome ≡ expected f (sideOf own f) (sideOf peer f)
   pub configuration : (f : Feature) → rules.configuration (featureOf p f .setting) (featureOf p f .outcome)
-      ≡ rules.configuration (featureOf own f .setting) (settledOutcome f (sideOf own f) (sideOf peer f))
+      ≡ rules.configuration (featureOf own f .setting) (expected f (sideOf own f) (sideOf peer f))
 
 -- Second half: what an end holds of its peer is none or exactly the peer's own, of a feature that the peer advertises
 pub record Truthful (peer p : Port) : Type 0 where

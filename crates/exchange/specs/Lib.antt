@@ -1,4 +1,5 @@
 pub mod Rounds
 pub mod Round
+pub mod RoundLaws
 pub mod Demand3
 pub mod Worked

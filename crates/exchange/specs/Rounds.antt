@@ -187,5 +187,5 @@ unfoldable pub alone : Feature → Side → Side → Outcome
 alone f own peer = ruled f own peer (ruled f peer own false .error)
 
 -- and where this end does not advertise the feature it ignores what came (Handling a frame, 4)
-unfoldable pub settledOutcome : Feature → Side → Side → Outcome
-settledOutcome f own peer = if own .setting .advertise then alone f own peer else fresh (own .max) (own .setting) .outcome
+unfoldable pub expected : Feature → Side → Side → Outcome
+expected f own peer = if own .setting .advertise then alone f own peer else fresh (own .max) (own .setting) .outcome

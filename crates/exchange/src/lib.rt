@@ -1,6 +1,7 @@
 // Two ends of a cable: one round between two cards over lent buffers.
 ghost use mathlib.Core.Path.{_≡_};
-ghost use Rattle.exchange.specs.Round.{Rounded, received};
+ghost use Rattle.exchange.specs.Round.{Rounded};
+ghost use Rattle.exchange.specs.RoundLaws.{received};
 use card::Card;
 use port::Written;
 

@@ -63,8 +63,8 @@ configuration s o = if o .adopts then o .peer .parameters else s .desired
 
 -- Rules 6 to 9, at a version and with a peer that is held. "In 7 and 8 the reason is "agreed" and the mode is true exactly if the
 -- peer's error flag is clear."
-unfoldable pub settled : Feature → Setting → ℕ → Peer → Outcome
-settled f s oper p =
+unfoldable pub judged : Feature → Setting → ℕ → Peer → Outcome
+judged f s oper p =
     -- 6. "Either end not enabled: "disabled", mode and Error false, own configuration."
     if not (s .enable && p .enable) then withPeer Disabled oper false false p false
     -- 7. "Willing differs: the unwilling end's configuration, Error false." A willing end adopts the peer's.
@@ -87,4 +87,4 @@ outcome f max s oper r =
     else if not (operOf (r .value) is lower max (maxOf (r .value))) then withoutPeer Waiting (lower max (maxOf (r .value))) false
     -- 5. "Wrong length or invalid parameters: "bad", Error true."
     else if not (valid f (parametersOf (r .value))) then withoutPeer Bad (lower max (maxOf (r .value))) true
-    else settled f s (lower max (maxOf (r .value))) (heldPeer f (r .value))
+    else judged f s (lower max (maxOf (r .value))) (heldPeer f (r .value))

@@ -11,7 +11,7 @@ use Rattle.parameters.specs.declared.Feature.{Feature}
 use Rattle.parameters.specs.declared.Parameters.{Parameters}
 use Rattle.parameters.specs.Parameters.{valid, compatible, content, plain, stored, noParameters}
 use Rattle.parameters.specs.FeatureLaws.{valid-length}
-use Rattle.parameters.specs.HoldingLaws.{content-stored}
+use Rattle.parameters.specs.StoringLaws.{content-stored}
 use Rattle.parameters.specs.WritingLaws.{content-of}
 use Rattle.parameters.specs.PlainLaws.{length-plain, compatible-plain-right}
 use Rattle.feature.specs.declared.Reason.the-variants.{Absent, Duplicate, Bad, Waiting, Disabled, Agreed, NotCompatible}
@@ -21,8 +21,8 @@ use Rattle.feature.specs.declared.Flags.{Flags}
 use Rattle.feature.specs.declared.Switches.{Switches}
 use Rattle.feature.specs.declared.Decision.{Decision}
 use Rattle.feature.specs.declared.Outcome.{Outcome}
-use Rattle.feature.specs.Outcome.{operOf, maxOf, enableOf, willingOf, errorOf, parametersOf, configuration, lower, withoutPeer, withPeer, settled, outcome}
-use Rattle.feature.specs.RulesLaws.{judged, settled-by}
+use Rattle.feature.specs.Outcome.{operOf, maxOf, enableOf, willingOf, errorOf, parametersOf, configuration, lower, withoutPeer, withPeer, judged, outcome}
+use Rattle.feature.specs.RulesLaws.{judgedBy, judged-by}
 
 -- ---- an outcome in two parts
 
@@ -83,70 +83,70 @@ peerOf w p = record { held = true; enable = w .enable; willing = w .willing; err
 -- ---- rules 6 to 9
 
 -- what they decide, by the switches and parameters of the own end and the flags and parameters of the peer
-unfoldable pub settledOn : Feature → Switches → List ℕ → ℕ → Flags → List ℕ → Decision
-settledOn f s own oper p theirs =
-    decided (judged (s .enable && p .enable) (Bool·beq (s .willing) (p .willing)) (compatible f own theirs) (s .willing) oper (peerOf p noParameters))
+unfoldable pub judgedOn : Feature → Switches → List ℕ → ℕ → Flags → List ℕ → Decision
+judgedOn f s own oper p theirs =
+    decided (judgedBy (s .enable && p .enable) (Bool·beq (s .willing) (p .willing)) (compatible f own theirs) (s .willing) oper (peerOf p noParameters))
 
 module _ (f : Feature) (s : Switches) (own : List ℕ) (oper : ℕ) (w : Flags) (t : List ℕ) {d : Decision} where
-  pub settled-own-off : d ≡ decided (withPeer Disabled oper false false (peerOf w noParameters) false) → not (s .enable) ≡ true → d ≡ settledOn f s own oper w t
-  unfolding settledOn judged
-  settled-own-off e a = simp (e, not-true (s .enable) a)
+  pub judged-own-off : d ≡ decided (withPeer Disabled oper false false (peerOf w noParameters) false) → not (s .enable) ≡ true → d ≡ judgedOn f s own oper w t
+  unfolding judgedOn judgedBy
+  judged-own-off e a = simp (e, not-true (s .enable) a)
 
   module _ (a : not (s .enable) ≡ false) where
-    pub settled-peer-off : d ≡ decided (withPeer Disabled oper false false (peerOf w noParameters) false) → not (w .enable) ≡ true → d ≡ settledOn f s own oper w t
-    unfolding settledOn judged
-    settled-peer-off e b = simp (e, not-false (s .enable) a, not-true (w .enable) b)
+    pub judged-peer-off : d ≡ decided (withPeer Disabled oper false false (peerOf w noParameters) false) → not (w .enable) ≡ true → d ≡ judgedOn f s own oper w t
+    unfolding judgedOn judgedBy
+    judged-peer-off e b = simp (e, not-false (s .enable) a, not-true (w .enable) b)
 
     module _ (b : not (w .enable) ≡ false) where
-      pub settled-differ : d ≡ decided (withPeer Agreed oper false (not (w .error)) (peerOf w noParameters) (s .willing))
-          → not (Bool·beq (s .willing) (w .willing)) ≡ true → d ≡ settledOn f s own oper w t
-      unfolding settledOn judged
-      settled-differ e c = simp (e, not-false (s .enable) a, not-false (w .enable) b, c)
+      pub judged-differ : d ≡ decided (withPeer Agreed oper false (not (w .error)) (peerOf w noParameters) (s .willing))
+          → not (Bool·beq (s .willing) (w .willing)) ≡ true → d ≡ judgedOn f s own oper w t
+      unfolding judgedOn judgedBy
+      judged-differ e c = simp (e, not-false (s .enable) a, not-false (w .enable) b, c)
 
       module _ (c : not (Bool·beq (s .willing) (w .willing)) ≡ false) {g : Bool} (y : g ≡ compatible f own t) where
-        pub settled-alike : d ≡ decided (withPeer Agreed oper false (not (w .error)) (peerOf w noParameters) false) → g ≡ true → d ≡ settledOn f s own oper w t
-        unfolding settledOn judged
-        settled-alike e h = simp (e, not-false (s .enable) a, not-false (w .enable) b, c, sym y ∙ h)
+        pub judged-alike : d ≡ decided (withPeer Agreed oper false (not (w .error)) (peerOf w noParameters) false) → g ≡ true → d ≡ judgedOn f s own oper w t
+        unfolding judgedOn judgedBy
+        judged-alike e h = simp (e, not-false (s .enable) a, not-false (w .enable) b, c, sym y ∙ h)
 
-        pub settled-clash : d ≡ decided (withPeer NotCompatible oper true false (peerOf w noParameters) false) → g ≡ false → d ≡ settledOn f s own oper w t
-        unfolding settledOn judged
-        settled-clash e h = simp (e, not-false (s .enable) a, not-false (w .enable) b, c, sym y ∙ h)
+        pub judged-clash : d ≡ decided (withPeer NotCompatible oper true false (peerOf w noParameters) false) → g ≡ false → d ≡ judgedOn f s own oper w t
+        unfolding judgedOn judgedBy
+        judged-clash e h = simp (e, not-false (s .enable) a, not-false (w .enable) b, c, sym y ∙ h)
 
 -- a decision does not show the peer's parameters
-judged-decided : (a b c willing : Bool) (oper : ℕ) (w : Flags) (p q : Parameters) →
-    decided (judged a b c willing oper (peerOf w p)) ≡ decided (judged a b c willing oper (peerOf w q))
-unfolding judged
-judged-decided false b c willing oper w p q = refl
-judged-decided true false c willing oper w p q = refl
-judged-decided true true true willing oper w p q = refl
-judged-decided true true false willing oper w p q = refl
+judgedBy-decided : (a b c willing : Bool) (oper : ℕ) (w : Flags) (p q : Parameters) →
+    decided (judgedBy a b c willing oper (peerOf w p)) ≡ decided (judgedBy a b c willing oper (peerOf w q))
+unfolding judgedBy
+judgedBy-decided false b c willing oper w p q = refl
+judgedBy-decided true false c willing oper w p q = refl
+judgedBy-decided true true true willing oper w p q = refl
+judgedBy-decided true true false willing oper w p q = refl
 
 abbrev pub switchesOf : Setting → Switches
 switchesOf s = record { advertise = s .advertise; enable = s .enable; willing = s .willing }
 
 -- with a peer whose parameters suit the setting just as those that were looked at
-pub settles : (f : Feature) (s : Setting) (oper : ℕ) (w : Flags) (t : List ℕ) (q : Parameters)
+pub judges : (f : Feature) (s : Setting) (oper : ℕ) (w : Flags) (t : List ℕ) (q : Parameters)
     → compatible f (content (s .desired)) (content q) ≡ compatible f (content (s .desired)) t
-    → settledOn f (switchesOf s) (content (s .desired)) oper w t ≡ decided (settled f s oper (peerOf w q))
-unfolding settledOn
-settles f s oper w t q k =
-    ap (λ (c : Bool). decided (judged (s .enable && w .enable) (Bool·beq (s .willing) (w .willing)) c (s .willing) oper (peerOf w noParameters))) (sym k)
-    ∙ judged-decided (s .enable && w .enable) (Bool·beq (s .willing) (w .willing)) (compatible f (content (s .desired)) (content q)) (s .willing) oper w noParameters q
-    ∙ ap decided (sym (settled-by f s oper (peerOf w q)))
+    → judgedOn f (switchesOf s) (content (s .desired)) oper w t ≡ decided (judged f s oper (peerOf w q))
+unfolding judgedOn
+judges f s oper w t q k =
+    ap (λ (c : Bool). decided (judgedBy (s .enable && w .enable) (Bool·beq (s .willing) (w .willing)) c (s .willing) oper (peerOf w noParameters))) (sym k)
+    ∙ judgedBy-decided (s .enable && w .enable) (Bool·beq (s .willing) (w .willing)) (compatible f (content (s .desired)) (content q)) (s .willing) oper w noParameters q
+    ∙ ap decided (sym (judged-by f s oper (peerOf w q)))
 
 -- as the code lends the two ends' parameters
-pub settled-lent : (f : Feature) (s : Setting) (oper : ℕ) (w : Flags) (t : List ℕ) {x : Switches} {n : ℕ} {own : List ℕ} {d : Decision} → x ≡ switchesOf s
-    → n ≡ s .desired .length → own ≡ take n (s .desired .octets) → d ≡ settledOn f x own oper w t
-    → d ≡ settledOn f (switchesOf s) (content (s .desired)) oper w t
-settled-lent f s oper w t {x} {n} {own} ex en eo e =
+pub judged-lent : (f : Feature) (s : Setting) (oper : ℕ) (w : Flags) (t : List ℕ) {x : Switches} {n : ℕ} {own : List ℕ} {d : Decision} → x ≡ switchesOf s
+    → n ≡ s .desired .length → own ≡ take n (s .desired .octets) → d ≡ judgedOn f x own oper w t
+    → d ≡ judgedOn f (switchesOf s) (content (s .desired)) oper w t
+judged-lent f s oper w t {x} {n} {own} ex en eo e =
     let c : own ≡ content (s .desired) = content-of (s .desired) en eo in
-    e ∙ (λ i. settledOn f (ex i) (c i) oper w t)
+    e ∙ (λ i. judgedOn f (ex i) (c i) oper w t)
 
-pub settled-value : (f : Feature) (s : Setting) (oper : ℕ) (v : List ℕ) {x : Switches} {n : ℕ} {own : List ℕ} {w : Flags} {t : List ℕ} {d : Decision} → x ≡ switchesOf s
-    → n ≡ s .desired .length → own ≡ take n (s .desired .octets) → w ≡ flagsOf v → t ≡ parametersOf v → d ≡ settledOn f x own oper w t
-    → d ≡ settledOn f (switchesOf s) (content (s .desired)) oper (flagsOf v) (parametersOf v)
-settled-value f s oper v {x} {n} {own} {w} {t} ex en eo ew et e =
-    settled-lent f s oper w t ex en eo e ∙ (λ i. settledOn f (switchesOf s) (content (s .desired)) oper (ew i) (et i))
+pub judged-value : (f : Feature) (s : Setting) (oper : ℕ) (v : List ℕ) {x : Switches} {n : ℕ} {own : List ℕ} {w : Flags} {t : List ℕ} {d : Decision} → x ≡ switchesOf s
+    → n ≡ s .desired .length → own ≡ take n (s .desired .octets) → w ≡ flagsOf v → t ≡ parametersOf v → d ≡ judgedOn f x own oper w t
+    → d ≡ judgedOn f (switchesOf s) (content (s .desired)) oper (flagsOf v) (parametersOf v)
+judged-value f s oper v {x} {n} {own} {w} {t} ex en eo ew et e =
+    judged-lent f s oper w t ex en eo e ∙ (λ i. judgedOn f (switchesOf s) (content (s .desired)) oper (ew i) (et i))
 
 -- parameters that are valid suit the own ones just as what is held of them
 pub held-suits : (f : Feature) (o t : List ℕ) → valid f t ≡ true → compatible f o (content (stored (plain f t))) ≡ compatible f o t
@@ -185,11 +185,11 @@ module _ (f : Feature) (max : ℕ) (s : Setting) (oper n : ℕ) (v : List ℕ) {
           unfolding outcome
           outcome-invalid e t = simp (e, ne-eqb n 0 z, le-ltb 1 n d, le-ltb (length v) 4 l, ← ea, ← eb, le-ltb b a m, ← q, eq-eqb a c h, ← d4, ← y, t)
 
-          pub outcome-settled : o ≡ settledOn f (switchesOf s) (content (s .desired)) c (flagsOf v) (parametersOf v) → not g ≡ false
+          pub outcome-judged : o ≡ judgedOn f (switchesOf s) (content (s .desired)) c (flagsOf v) (parametersOf v) → not g ≡ false
               → o ≡ decided (outcome f max s oper (record { count = n; value = v }))
           unfolding outcome
-          outcome-settled e t =
+          outcome-judged e t =
               let u : valid f (parametersOf v) ≡ true = ap (valid f) (sym d4) ∙ sym y ∙ not-false g t in
               let i : g ≡ valid f (parametersOf v) = y ∙ ap (valid f) d4 in
               simp (ne-eqb n 0 z, le-ltb 1 n d, le-ltb (length v) 4 l, ← ea, ← eb, le-ltb b a m, ← q, eq-eqb a c h, ← i, t)
-              (e ∙ settles f s c (flagsOf v) (parametersOf v) (stored (plain f (parametersOf v))) (held-suits f (content (s .desired)) (parametersOf v) u))
+              (e ∙ judges f s c (flagsOf v) (parametersOf v) (stored (plain f (parametersOf v))) (held-suits f (content (s .desired)) (parametersOf v) u))

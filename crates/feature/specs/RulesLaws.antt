@@ -9,37 +9,37 @@ use Rattle.feature.specs.declared.Setting.{Setting}
 use Rattle.feature.specs.declared.Peer.{Peer}
 use Rattle.feature.specs.declared.Outcome.{Outcome}
 use Rattle.feature.specs.declared.Reason.the-variants.{Disabled, Agreed, NotCompatible}
-use Rattle.feature.specs.Outcome.{withPeer, settled}
+use Rattle.feature.specs.Outcome.{withPeer, judged}
 
-unfoldable pub judged : Bool → Bool → Bool → Bool → ℕ → Peer → Outcome
-judged a b c willing oper p =
+unfoldable pub judgedBy : Bool → Bool → Bool → Bool → ℕ → Peer → Outcome
+judgedBy a b c willing oper p =
     if not a then withPeer Disabled oper false false p false
     else if not b then withPeer Agreed oper false (not (p .error)) p willing
     else if c then withPeer Agreed oper false (not (p .error)) p false
     else withPeer NotCompatible oper true false p false
 
-pub settled-by : (f : Feature) (s : Setting) (oper : ℕ) (p : Peer) →
-    settled f s oper p
-    ≡ judged (s .enable && p .enable) (Bool·beq (s .willing) (p .willing)) (compatible f (content (s .desired)) (content (p .parameters))) (s .willing) oper p
-unfolding settled judged
-settled-by f s oper p = refl
+pub judged-by : (f : Feature) (s : Setting) (oper : ℕ) (p : Peer) →
+    judged f s oper p
+    ≡ judgedBy (s .enable && p .enable) (Bool·beq (s .willing) (p .willing)) (compatible f (content (s .desired)) (content (p .parameters))) (s .willing) oper p
+unfolding judged judgedBy
+judged-by f s oper p = refl
 
-judged-oper : (a b c willing : Bool) (oper : ℕ) (p : Peer) → judged a b c willing oper p .oper ≡ oper
-unfolding judged
-judged-oper false b c willing oper p = refl
-judged-oper true false c willing oper p = refl
-judged-oper true true true willing oper p = refl
-judged-oper true true false willing oper p = refl
+judgedBy-oper : (a b c willing : Bool) (oper : ℕ) (p : Peer) → judgedBy a b c willing oper p .oper ≡ oper
+unfolding judgedBy
+judgedBy-oper false b c willing oper p = refl
+judgedBy-oper true false c willing oper p = refl
+judgedBy-oper true true true willing oper p = refl
+judgedBy-oper true true false willing oper p = refl
 
-judged-peer : (a b c willing : Bool) (oper : ℕ) (p : Peer) → judged a b c willing oper p .peer ≡ p
-unfolding judged
-judged-peer false b c willing oper p = refl
-judged-peer true false c willing oper p = refl
-judged-peer true true true willing oper p = refl
-judged-peer true true false willing oper p = refl
+judgedBy-peer : (a b c willing : Bool) (oper : ℕ) (p : Peer) → judgedBy a b c willing oper p .peer ≡ p
+unfolding judgedBy
+judgedBy-peer false b c willing oper p = refl
+judgedBy-peer true false c willing oper p = refl
+judgedBy-peer true true true willing oper p = refl
+judgedBy-peer true true false willing oper p = refl
 
-pub settled-oper : (f : Feature) (s : Setting) (oper : ℕ) (p : Peer) → settled f s oper p .oper ≡ oper
-settled-oper f s oper p = rw settled-by (judged-oper _ _ _ (s .willing) oper p)
+pub judged-oper : (f : Feature) (s : Setting) (oper : ℕ) (p : Peer) → judged f s oper p .oper ≡ oper
+judged-oper f s oper p = rw judged-by (judgedBy-oper _ _ _ (s .willing) oper p)
 
-pub settled-peer : (f : Feature) (s : Setting) (oper : ℕ) (p : Peer) → settled f s oper p .peer ≡ p
-settled-peer f s oper p = rw settled-by (judged-peer _ _ _ (s .willing) oper p)
+pub judged-peer : (f : Feature) (s : Setting) (oper : ℕ) (p : Peer) → judged f s oper p .peer ≡ p
+judged-peer f s oper p = rw judged-by (judgedBy-peer _ _ _ (s .willing) oper p)

@@ -4,7 +4,7 @@ use mathlib.Core.Bool.{Bool, true, false, not, _&&_, _||_, Bool·beq}
 use mathlib.Core.List.{List, [], _∷_, _++_}
 use lib.ListN.{length}
 use Rattle.octets.specs.Words.{if_then_else_, _is_}
-use Rattle.octets.specs.Octets.{same}
+use Rattle.octets.specs.Octets.{headed, same}
 use Rattle.parameters.specs.declared.Feature.{Feature}
 use Rattle.feature.specs.declared.Reason.{Reason}
 use Rattle.feature.specs.declared.Reason.the-variants.{NoPeerYet, NotAdvertised, ControlTwice}
@@ -13,7 +13,7 @@ use Rattle.feature.specs.declared.Setting.{Setting}
 use Rattle.feature.specs.declared.Outcome.{Outcome}
 use Rattle.feature.specs.declared.State.{State}
 use Rattle.parameters.specs.Parameters.{featureNumber, plain, stored, content, sameParameters}
-use Rattle.feature.specs.Outcome.{Received, noPeer, withoutPeer, settled, outcome}
+use Rattle.feature.specs.Outcome.{Received, noPeer, withoutPeer, judged, outcome}
 
 -- "SeqNo goes up by one, 4,294,967,295 going to 0"
 abbrev pub next : ℕ → ℕ
@@ -56,10 +56,6 @@ flags enable willing error = (if enable then 128 else 0) + (if willing then 64 e
 abbrev pub value : State → List ℕ
 value x =
     x .outcome .oper ∷ x .max ∷ flags (x .setting .enable) (x .setting .willing) (x .outcome .error) ∷ 0 ∷ content (x .setting .desired)
-
--- a head of type and length, as every sub-TLV has it, and the value behind it
-abbrev pub headed : ℕ → List ℕ → List ℕ
-headed type v = (type * 2 + length v / 256) ∷ (length v % 256) ∷ v
 
 -- the sub-TLV that is written: none where the feature is not advertised
 unfoldable pub subTlv : Feature → State → List ℕ
@@ -109,16 +105,16 @@ sameSetting s t =
 
 -- "if Advertise stays true, a held peer goes through outcome rules 6 to 9 again, and without one the reason, Error and mode stay
 -- and OperCfg = DesiredCfg. If Advertise stays false, OperCfg = DesiredCfg and mode = enable, nothing else."
-unfoldable pub resettled : Feature → Setting → Outcome → Outcome
-resettled f s o =
+unfoldable pub judgedAgain : Feature → Setting → Outcome → Outcome
+judgedAgain f s o =
     if not (s .advertise) then
     record { reason = o .reason; oper = o .oper; error = o .error; mode = s .enable; peer = o .peer; adopts = false }
-    else if o .peer .held then settled f s (o .oper) (o .peer)
+    else if o .peer .held then judged f s (o .oper) (o .peer)
     else record { reason = o .reason; oper = o .oper; error = o .error; mode = o .mode; peer = o .peer; adopts = false }
 
 -- "If Advertise goes false or true, the feature becomes as in the fresh state, except that FeatureSeqNo = SeqNo + 1."
 unfoldable pub reset : Feature → ℕ → Setting → State → State
 reset f seq s x =
     if Bool·beq (x .setting .advertise) (s .advertise) then
-    record { max = x .max; setting = s; outcome = resettled f s (x .outcome); syncd = x .syncd; sequence = x .sequence }
+    record { max = x .max; setting = s; outcome = judgedAgain f s (x .outcome); syncd = x .syncd; sequence = x .sequence }
     else freshAt (next seq) (x .max) s

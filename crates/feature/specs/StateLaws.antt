@@ -6,7 +6,7 @@ use mathlib.Core.List.{List, [], _∷_}
 use lib.ListN.{length, take}
 use Rattle.parameters.specs.WritingLaws.{Size, content-of}
 use lib.Seq.{sets}
-use Rattle.octets.specs.Octets.{same}
+use Rattle.octets.specs.Octets.{same, headed}
 use Rattle.octets.specs.Laws.{same-is, same-refl, sets-append}
 use Rattle.parameters.specs.Parameters.{featureNumber, content, noParameters, compatible, sameParameters}
 use native.Mathlib.Omega.{arith}
@@ -22,10 +22,10 @@ use Rattle.feature.specs.declared.Flags.{Flags}
 use Rattle.feature.specs.declared.Switches.{Switches}
 use Rattle.feature.specs.declared.Outcome.{Outcome}
 use Rattle.feature.specs.declared.State.{State}
-use Rattle.feature.specs.Outcome.{withoutPeer, settled}
-use Rattle.feature.specs.OutcomeLaws.{decided, outcomeOf, peerOf, settled-lent, settledOn, settles, switchesOf, withMode}
-use Rattle.feature.specs.RulesLaws.{settled-peer}
-use Rattle.feature.specs.State.{next, freshAt, flags, value, headed, subTlv, changed, marked, sameSetting, resettled, reset}
+use Rattle.feature.specs.Outcome.{withoutPeer, judged}
+use Rattle.feature.specs.OutcomeLaws.{decided, outcomeOf, peerOf, judged-lent, judgedOn, judges, switchesOf, withMode}
+use Rattle.feature.specs.RulesLaws.{judged-peer}
+use Rattle.feature.specs.State.{next, freshAt, flags, value, subTlv, changed, marked, sameSetting, judgedAgain, reset}
 
 module _ (sequence max : ℕ) (s : Setting) {d : Decision} {p : Parameters} {o : Outcome} (ep : p ≡ noParameters) where
   pub fresh-advertised : s .advertise ≡ true → d ≡ decided (withoutPeer NoPeerYet max false) → o ≡ outcomeOf d p
@@ -151,43 +151,43 @@ module _ (s t : Setting) where
           simp (e, not-false (Bool·beq (s .advertise) (t .advertise)) a, not-false (Bool·beq (s .enable) (t .enable)) b, not-false (Bool·beq (s .willing) (t .willing)) c)
 
 -- rules 6 to 9 for a peer that is held, whose parameters stay
-pub settled-again : (f : Feature) (s : Setting) (oper : ℕ) (p : Peer) → p .held ≡ true → {x : Switches} → x ≡ switchesOf s → {m n : ℕ} {own t : List ℕ}
+pub judged-held : (f : Feature) (s : Setting) (oper : ℕ) (p : Peer) → p .held ≡ true → {x : Switches} → x ≡ switchesOf s → {m n : ℕ} {own t : List ℕ}
     → m ≡ s .desired .length → own ≡ take m (s .desired .octets) → n ≡ p .parameters .length → t ≡ take n (p .parameters .octets) → {d : Decision}
-    → d ≡ settledOn f x own oper (record { enable = p .enable; willing = p .willing; error = p .error }) t
-    → {r : Outcome} → r ≡ outcomeOf d (p .parameters) → r ≡ settled f s oper p
-settled-again f s oper p h {x} ex {m} {n} {own} {t} em eo en et {d} ed er =
+    → d ≡ judgedOn f x own oper (record { enable = p .enable; willing = p .willing; error = p .error }) t
+    → {r : Outcome} → r ≡ outcomeOf d (p .parameters) → r ≡ judged f s oper p
+judged-held f s oper p h {x} ex {m} {n} {own} {t} em eo en et {d} ed er =
     let w : Flags = record { enable = p .enable; willing = p .willing; error = p .error } in
     let q : Peer = peerOf w (p .parameters) in
     let k : q ≡ p = λ i. record { held = sym h i; enable = p .enable; willing = p .willing; error = p .error; parameters = p .parameters } in
-    let e : d ≡ decided (settled f s oper q) =
-    settled-lent f s oper w t ex em eo ed ∙ settles f s oper w t (p .parameters) (ap (compatible f (content (s .desired))) (sym (content-of (p .parameters) en et))) in
-    let m : settled f s oper q .peer ≡ q = settled-peer f s oper q in
+    let e : d ≡ decided (judged f s oper q) =
+    judged-lent f s oper w t ex em eo ed ∙ judges f s oper w t (p .parameters) (ap (compatible f (content (s .desired))) (sym (content-of (p .parameters) en et))) in
+    let m : judged f s oper q .peer ≡ q = judged-peer f s oper q in
     er ∙ ap (λ (d : Decision). outcomeOf d (p .parameters)) e
-    ∙ (λ i. outcomeOf (decided (settled f s oper q)) (sym m i .parameters))
-    ∙ ap (settled f s oper) k
+    ∙ (λ i. outcomeOf (decided (judged f s oper q)) (sym m i .parameters))
+    ∙ ap (judged f s oper) k
 
 module _ (f : Feature) (s : Setting) (o : Outcome) where
-  pub resettled-withheld : not (s .advertise) ≡ true
-      → record { reason = o .reason; oper = o .oper; error = o .error; mode = s .enable; peer = o .peer; adopts = false } ≡ resettled f s o
-  unfolding resettled
-  resettled-withheld t = simp t
+  pub judgedAgain-withheld : not (s .advertise) ≡ true
+      → record { reason = o .reason; oper = o .oper; error = o .error; mode = s .enable; peer = o .peer; adopts = false } ≡ judgedAgain f s o
+  unfolding judgedAgain
+  judgedAgain-withheld t = simp t
 
   module _ (t : not (s .advertise) ≡ false) where
-    pub resettled-held : {r : Outcome} → o .peer .held ≡ true → r ≡ settled f s (o .oper) (o .peer) → r ≡ resettled f s o
-    unfolding resettled
-    resettled-held h e = simp (e, t, h)
+    pub judgedAgain-held : {r : Outcome} → o .peer .held ≡ true → r ≡ judged f s (o .oper) (o .peer) → r ≡ judgedAgain f s o
+    unfolding judgedAgain
+    judgedAgain-held h e = simp (e, t, h)
 
-    pub resettled-alone : o .peer .held ≡ false
-        → record { reason = o .reason; oper = o .oper; error = o .error; mode = o .mode; peer = o .peer; adopts = false } ≡ resettled f s o
-    unfolding resettled
-    resettled-alone h = simp (t, h)
+    pub judgedAgain-alone : o .peer .held ≡ false
+        → record { reason = o .reason; oper = o .oper; error = o .error; mode = o .mode; peer = o .peer; adopts = false } ≡ judgedAgain f s o
+    unfolding judgedAgain
+    judgedAgain-alone h = simp (t, h)
 
 module _ (f : Feature) (seq : ℕ) (s : Setting) (x : State) where
   pub reset-anew : {n : ℕ} {r : State} → not (Bool·beq (x .setting .advertise) (s .advertise)) ≡ true → n ≡ next seq → r ≡ freshAt n (x .max) s → r ≡ reset f seq s x
   unfolding reset
   reset-anew t e h = simp (h, e, not-true (Bool·beq (x .setting .advertise) (s .advertise)) t)
 
-  pub reset-kept : {o : Outcome} → not (Bool·beq (x .setting .advertise) (s .advertise)) ≡ false → o ≡ resettled f s (x .outcome)
+  pub reset-kept : {o : Outcome} → not (Bool·beq (x .setting .advertise) (s .advertise)) ≡ false → o ≡ judgedAgain f s (x .outcome)
       → record { max = x .max; setting = s; outcome = o; syncd = x .syncd; sequence = x .sequence } ≡ reset f seq s x
   unfolding reset
   reset-kept t e = simp (e, not-false (Bool·beq (x .setting .advertise) (s .advertise)) t)

@@ -20,9 +20,9 @@ use Rattle.feature.specs.declared.State.{State}
 use Rattle.feature.specs.declared.steps.Course.{Course}
 use Rattle.feature.specs.declared.steps.Course.the-variants.{Twice, OtherVersion, Exchange}
 use Rattle.feature.specs.declared.steps.Turn.{Turn}
-use Rattle.feature.specs.Outcome.{Received, operOf, maxOf, parametersOf, lower, heldPeer, withoutPeer, settled, outcome}
+use Rattle.feature.specs.Outcome.{Received, operOf, maxOf, parametersOf, lower, heldPeer, withoutPeer, judged, outcome}
 use Rattle.feature.specs.OutcomeLaws.{decided, outcomeOf}
-use Rattle.feature.specs.RulesLaws.{settled-peer}
+use Rattle.feature.specs.RulesLaws.{judged-peer}
 use Rattle.feature.specs.State.{next, flags, subTlv, controlTwice, acknowledged, received, changed, marked}
 use Rattle.feature.specs.StateLaws.{changed-not, changed-hidden, changed-oper, changed-flags, marked-withheld, marked-same, marked-changed}
 
@@ -51,8 +51,8 @@ weighed x d syncd seq =
     if x .outcome .oper is d .oper && Bool·beq (x .outcome .error) (d .error) then record { decision = d; syncd = syncd; sequence = x .sequence }
     else record { decision = d; syncd = false; sequence = next seq }
 
-abbrev pub heldNow : Feature → List ℕ → Bool → Parameters
-heldNow f v held = if held then stored (plain f (parametersOf v)) else noParameters
+abbrev pub peerParametersNow : Feature → List ℕ → Bool → Parameters
+peerParametersNow f v held = if held then stored (plain f (parametersOf v)) else noParameters
 
 -- a frame leaves what is held of the peer
 abbrev keepsOn : Course → Bool
@@ -63,8 +63,8 @@ keepsOn Exchange = false
 unfoldable pub keepsBy : Course → State → Bool
 keepsBy c x = not (x .setting .advertise) || keepsOn c
 
-unfoldable pub heldAfter : Course → Feature → List ℕ → Bool → State → Parameters
-heldAfter c f v held x = if keepsBy c x then x .outcome .peer .parameters else heldNow f v held
+unfoldable pub peerParametersAfter : Course → Feature → List ℕ → Bool → State → Parameters
+peerParametersAfter c f v held x = if keepsBy c x then x .outcome .peer .parameters else peerParametersNow f v held
 
 abbrev pub renewed : State → Turn → Parameters → State
 renewed x t p = record { max = x .max; setting = x .setting; outcome = outcomeOf (t .decision) p; syncd = t .syncd; sequence = t .sequence }
@@ -217,22 +217,22 @@ module _ (x : State) (c : Course) where
     keeps-exchange e = simp (a, e)
 
 module _ (f : Feature) (v : List ℕ) (x : State) (c : Course) {b : Bool} (k : b ≡ keepsBy c x) (held : Bool) where
-  pub held-kept : b ≡ true → x .outcome .peer .parameters ≡ heldAfter c f v held x
-  unfolding heldAfter
+  pub held-kept : b ≡ true → x .outcome .peer .parameters ≡ peerParametersAfter c f v held x
+  unfolding peerParametersAfter
   held-kept t = simp (← k, t)
 
   module _ (t : b ≡ false) {p : Parameters} where
-    pub held-brought : {o : List ℕ} → held ≡ true → o ≡ parametersOf v → p ≡ stored (plain f o) → p ≡ heldAfter c f v held x
-    unfolding heldAfter
+    pub held-brought : {o : List ℕ} → held ≡ true → o ≡ parametersOf v → p ≡ stored (plain f o) → p ≡ peerParametersAfter c f v held x
+    unfolding peerParametersAfter
     held-brought h eo e = e ∙ simp (← k, t, h, eo)
 
-    pub held-none : held ≡ false → p ≡ noParameters → p ≡ heldAfter c f v held x
-    unfolding heldAfter
+    pub held-none : held ≡ false → p ≡ noParameters → p ≡ peerParametersAfter c f v held x
+    unfolding peerParametersAfter
     held-none h e = e ∙ simp (← k, t, h)
 
 -- the outcome holds the parameters that came exactly if it holds a peer
 Brought : Feature → List ℕ → Peer → Type 0
-Brought f v p = p .parameters ≡ heldNow f v (p .held)
+Brought f v p = p .parameters ≡ peerParametersNow f v (p .held)
 
 ruled-brought : (f : Feature) (max : ℕ) (s : Setting) (oper low : ℕ) (v : List ℕ) (a b c d e : Bool) →
     Brought f v
@@ -241,7 +241,7 @@ ruled-brought : (f : Feature) (max : ℕ) (s : Setting) (oper low : ℕ) (v : Li
     else if c then withoutPeer Bad oper true
     else if not d then withoutPeer Waiting low false
     else if not e then withoutPeer Bad low true
-    else settled f s low (heldPeer f v))
+    else judged f s low (heldPeer f v))
     .peer)
 unfolding Brought
 ruled-brought f max s oper low v true b c d e = refl
@@ -249,7 +249,7 @@ ruled-brought f max s oper low v false true c d e = refl
 ruled-brought f max s oper low v false false true d e = refl
 ruled-brought f max s oper low v false false false false e = refl
 ruled-brought f max s oper low v false false false true false = refl
-ruled-brought f max s oper low v false false false true true = rw settled-peer refl
+ruled-brought f max s oper low v false false false true true = rw judged-peer refl
 
 outcome-brought : (f : Feature) (max : ℕ) (s : Setting) (oper : ℕ) (r : Received) → Brought f (r .value) (outcome f max s oper r .peer)
 unfolding outcome
@@ -298,12 +298,12 @@ marked-outcome f seq x y = by (y .setting .advertise && changed f x y)
 
 -- the parameters that are held are those of the state after steps 1 to 4
 stepped-held : (c : Course) (f : Feature) (r : Received) (rcvd seq : ℕ) (x : State) →
-    heldAfter c f (r .value) (stepped c f r rcvd seq x .outcome .peer .held) x ≡ stepped c f r rcvd seq x .outcome .peer .parameters
-unfolding heldAfter keepsBy controlTwice received acknowledged Brought
+    peerParametersAfter c f (r .value) (stepped c f r rcvd seq x .outcome .peer .held) x ≡ stepped c f r rcvd seq x .outcome .peer .parameters
+unfolding peerParametersAfter keepsBy controlTwice received acknowledged Brought
 stepped-held c f r rcvd seq x = by c (x .setting .advertise) refl
   where
     by : (c : Course) (b : Bool) → x .setting .advertise ≡ b →
-        heldAfter c f (r .value) (stepped c f r rcvd seq x .outcome .peer .held) x ≡ stepped c f r rcvd seq x .outcome .peer .parameters
+        peerParametersAfter c f (r .value) (stepped c f r rcvd seq x .outcome .peer .held) x ≡ stepped c f r rcvd seq x .outcome .peer .parameters
     by Twice true e = simp e
     by Twice false e = simp e
     by OtherVersion true e = simp e
@@ -312,12 +312,12 @@ stepped-held c f r rcvd seq x = by c (x .setting .advertise) refl
     by Exchange false e = simp e
 
 pub renewed-after : (c : Course) (f : Feature) (r : Received) (rcvd seq : ℕ) (x : State) →
-    renewed x (turnOf (after c f r rcvd seq x)) (heldAfter c f (r .value) (after c f r rcvd seq x .outcome .peer .held) x) ≡ after c f r rcvd seq x
+    renewed x (turnOf (after c f r rcvd seq x)) (peerParametersAfter c f (r .value) (after c f r rcvd seq x .outcome .peer .held) x) ≡ after c f r rcvd seq x
 renewed-after c f r rcvd seq x =
     let y : State = stepped c f r rcvd seq x in
     let z : State = marked f seq x y in
     let s : Same x z = after-same c f r rcvd seq x in
     let o : z .outcome ≡ y .outcome = marked-outcome f seq x y in
-    let h : heldAfter c f (r .value) (z .outcome .peer .held) x ≡ z .outcome .peer .parameters =
-    ap (λ (b : Bool). heldAfter c f (r .value) b x) (ap (λ (o : Outcome). o .peer .held) o) ∙ stepped-held c f r rcvd seq x ∙ ap (λ (o : Outcome). o .peer .parameters) (sym o) in
+    let h : peerParametersAfter c f (r .value) (z .outcome .peer .held) x ≡ z .outcome .peer .parameters =
+    ap (λ (b : Bool). peerParametersAfter c f (r .value) b x) (ap (λ (o : Outcome). o .peer .held) o) ∙ stepped-held c f r rcvd seq x ∙ ap (λ (o : Outcome). o .peer .parameters) (sym o) in
     λ i. record { max = sym (s .max) i; setting = sym (s .setting) i; outcome = outcomeOf (decided (z .outcome)) (h i); syncd = z .syncd; sequence = z .sequence }

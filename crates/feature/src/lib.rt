@@ -3,7 +3,7 @@ ghost use mathlib.Core.Path.{_≡_};
 ghost use Rattle.parameters.specs.Parameters.{content, noParameters};
 ghost use Rattle.feature.specs.Reasons.{reasonNumber};
 ghost use Rattle.feature.specs.Outcome.{Received, configuration, lower, outcome, parametersOf, withPeer, withoutPeer};
-ghost use Rattle.feature.specs.OutcomeLaws.{decided, flagsOf, outcomeOf, peerOf, settledOn, switchesOf};
+ghost use Rattle.feature.specs.OutcomeLaws.{decided, flagsOf, outcomeOf, peerOf, judgedOn, switchesOf};
 use parameters::Feature;
 use parameters::Parameters;
 
@@ -190,8 +190,8 @@ fn with_peer(why: Reason, oper: u8, error: bool, mode: bool, p: Flags, adopts: b
 }
 
 // Rules 6 to 9, at a version and with a peer that is held.
-pub fn settle(f: Feature, s: Switches, own: &[u8], oper: u8, p: Flags, theirs: &[u8]) -> Decision
-    ensures { λ r. ⌜ r ≡ settledOn f s (now (own .entry)) oper p (now (theirs .entry)) ⌝ }
+pub fn judge(f: Feature, s: Switches, own: &[u8], oper: u8, p: Flags, theirs: &[u8]) -> Decision
+    ensures { λ r. ⌜ r ≡ judgedOn f s (now (own .entry)) oper p (now (theirs .entry)) ⌝ }
 {
     if !s.enable {
         return with_peer(Reason::Disabled, oper, false, false, p, false);
@@ -232,12 +232,12 @@ fn flags_in(value: &[u8]) -> Flags
 }
 
 // Rules 6 to 9 of a sub-TLV's value.
-fn settle_value(f: Feature, s: Setting, oper: u8, value: &[u8]) -> Decision
-    ensures { λ r. ⌜ r ≡ settledOn f (switchesOf s) (content (s .desired)) oper (flagsOf (now (value .entry))) (parametersOf (now (value .entry))) ⌝ }
+fn judge_value(f: Feature, s: Setting, oper: u8, value: &[u8]) -> Decision
+    ensures { λ r. ⌜ r ≡ judgedOn f (switchesOf s) (content (s .desired)) oper (flagsOf (now (value .entry))) (parametersOf (now (value .entry))) ⌝ }
 {
     let own = switches_of(s);
     let desired = octets::first(&s.desired.octets, octets::wide(s.desired.length));
-    settle(
+    judge(
         f,
         own,
         desired,
@@ -272,5 +272,5 @@ pub fn decide(f: Feature, max: u8, s: Setting, oper: u8, count: u8, value: &[u8]
     if !parameters::valid(f, octets::from(value, 4)) {
         return without_peer(Reason::Bad, low, true);
     }
-    settle_value(f, s, low, value)
+    judge_value(f, s, low, value)
 }

@@ -8,10 +8,10 @@ ghost use lib.Seq.{sets};
 ghost use Rattle.octets.specs.Words.{if_then_else_, _is_};
 ghost use Rattle.octets.specs.Octets.{same};
 ghost use Rattle.parameters.specs.Parameters.{content};
-ghost use Rattle.feature.specs.Outcome.{settled};
+ghost use Rattle.feature.specs.Outcome.{judged};
 ghost use Rattle.feature.specs.StateLaws.{Room, Sized, parts};
-ghost use Rattle.feature.specs.TurnLaws.{after, heldAfter, keepsBy, keptAt, renewed, turnOf, weighed};
-ghost use Rattle.feature.specs.State.{freshAt, stopped, controlTwice, acknowledged, received, changed, marked, next, flags, subTlv, settingOf, sameSetting, resettled, reset};
+ghost use Rattle.feature.specs.TurnLaws.{after, peerParametersAfter, keepsBy, keptAt, renewed, turnOf, weighed};
+ghost use Rattle.feature.specs.State.{freshAt, stopped, controlTwice, acknowledged, received, changed, marked, next, flags, subTlv, settingOf, sameSetting, judgedAgain, reset};
 use crate::Decision;
 use crate::Flags;
 use crate::Outcome;
@@ -208,8 +208,8 @@ fn keeps(x: State, course: Course) -> bool
 }
 
 // The parameters held of the peer after a frame: `held` says whether there is one.
-pub fn held_after(f: Feature, x: State, course: Course, held: bool, value: &[u8]) -> Parameters
-    ensures { λ r. ⌜ r ≡ heldAfter course f (now (value .entry)) held x ⌝ }
+pub fn peer_parameters_after(f: Feature, x: State, course: Course, held: bool, value: &[u8]) -> Parameters
+    ensures { λ r. ⌜ r ≡ peerParametersAfter course f (now (value .entry)) held x ⌝ }
 {
     let o = x.outcome;
     let p = o.peer;
@@ -217,7 +217,7 @@ pub fn held_after(f: Feature, x: State, course: Course, held: bool, value: &[u8]
         return p.parameters;
     }
     if held {
-        return parameters::hold(f, octets::from(value, 4));
+        return parameters::store(f, octets::from(value, 4));
     }
     crate::no_parameters()
 }
@@ -312,7 +312,7 @@ pub fn mark(f: Feature, seq: u32, before: State, after: State) -> State
 pub fn setting_of(f: Feature, w: Switches, p: &[u8]) -> Setting
     ensures { λ r. ⌜ r ≡ settingOf f w (now (p .entry)) ⌝ }
 {
-    let desired = parameters::hold(f, p);
+    let desired = parameters::store(f, p);
     Setting {
         advertise: w.advertise,
         enable: w.enable,
@@ -340,9 +340,9 @@ pub fn same_setting(s: Setting, t: Setting) -> bool
 }
 
 // Rules 6 to 9 again, for a peer that is held.
-fn settle_again(f: Feature, s: Setting, oper: u8, p: Peer) -> Outcome
+fn judge_held(f: Feature, s: Setting, oper: u8, p: Peer) -> Outcome
     requires { ⌜ p .held ≡ true ⌝ }
-    ensures { λ r. ⌜ r ≡ settled f s oper p ⌝ }
+    ensures { λ r. ⌜ r ≡ judged f s oper p ⌝ }
 {
     let q = p.parameters;
     let flags = Flags {
@@ -353,13 +353,13 @@ fn settle_again(f: Feature, s: Setting, oper: u8, p: Peer) -> Outcome
     let own = crate::switches_of(s);
     let desired = octets::first(&s.desired.octets, octets::wide(s.desired.length));
     let theirs = octets::first(&q.octets, octets::wide(q.length));
-    let decision = crate::settle(f, own, desired, oper, flags, theirs);
+    let decision = crate::judge(f, own, desired, oper, flags, theirs);
     crate::outcome_of(decision, q)
 }
 
 // The outcome under another setting that is advertised just as the one before.
-fn resettle(f: Feature, s: Setting, o: Outcome) -> Outcome
-    ensures { λ r. ⌜ r ≡ resettled f s o ⌝ }
+fn judge_again(f: Feature, s: Setting, o: Outcome) -> Outcome
+    ensures { λ r. ⌜ r ≡ judgedAgain f s o ⌝ }
 {
     let peer = o.peer;
     if !s.advertise {
@@ -369,7 +369,7 @@ fn resettle(f: Feature, s: Setting, o: Outcome) -> Outcome
         return next;
     }
     if peer.held {
-        return settle_again(f, s, o.oper, peer);
+        return judge_held(f, s, o.oper, peer);
     }
     let mut next = o;
     next.adopts = false;
@@ -386,7 +386,7 @@ pub fn set_anew(f: Feature, seq: u32, s: Setting, x: State) -> State
         return fresh_at(up, x.max, s);
     }
     let o = x.outcome;
-    let outcome = resettle(f, s, o);
+    let outcome = judge_again(f, s, o);
     let mut next = x;
     next.setting = s;
     next.outcome = outcome;

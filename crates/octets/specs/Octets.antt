@@ -1,8 +1,8 @@
 -- Octets as lists of numbers: one at a place, big-endian numbers, equality.
 use Prim.Native.Nat.{ℕ, _+_, _*_, _/_, _%_}
 use mathlib.Core.Bool.{Bool, true, false, _&&_}
-use mathlib.Core.List.{List, [], _∷_}
-use lib.ListN.{getD}
+use mathlib.Core.List.{List, [], _∷_, _++_}
+use lib.ListN.{length, getD}
 use Rattle.octets.specs.Words.{_is_}
 
 -- the octet at a place, and 0 past the end
@@ -18,6 +18,14 @@ number4 o i = at o i * 16777216 + at o (i + 1) * 65536 + at o (i + 2) * 256 + at
 
 abbrev pub octets4 : ℕ → List ℕ
 octets4 n = n / 256 / 256 / 256 % 256 ∷ n / 256 / 256 % 256 ∷ n / 256 % 256 ∷ n % 256 ∷ []
+
+-- 01, TLV layout: "Type and length fill two octets, high octet first: 7 bits type, 9 bits length." The head of a type and a length.
+abbrev pub head : ℕ → ℕ → List ℕ
+head type n = (type * 2 + n / 256) ∷ (n % 256) ∷ []
+
+-- a value behind its head
+abbrev pub headed : ℕ → List ℕ → List ℕ
+headed type v = head type (length v) ++ v
 
 unfoldable pub same : List ℕ → List ℕ → Bool
 same [] [] = true

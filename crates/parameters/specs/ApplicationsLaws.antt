@@ -9,7 +9,7 @@ use Rattle.octets.specs.Words.{_is_, _atmost_}
 use Rattle.octets.specs.Laws.{and-left, and-right}
 use Rattle.parameters.specs.declared.Feature.the-variants.{Applications}
 use Rattle.parameters.specs.AllLaws.{Passed, passed-more, passed-not, passed-end}
-use Rattle.parameters.specs.Steps.{otherName, lowSelector, noClash}
+use Rattle.parameters.specs.StepsLaws.{otherName, lowSelector, noClash}
 use Rattle.parameters.specs.Parameters.{entryCount, idOf, selectorOf, mapOf, sameName, allFrom, newName, validApplications, valid, localValues, clash, clearOf, compatible}
 
 -- ---- names and maps

@@ -12,7 +12,7 @@ use Rattle.octets.specs.Words.{_is_, _atmost_}
 use Rattle.octets.specs.Octets.{at, same}
 use Rattle.parameters.specs.declared.Feature.the-variants.{Groups}
 use Rattle.parameters.specs.ListLaws.{take-min}
-use Rattle.parameters.specs.Steps.{twoGroups}
+use Rattle.parameters.specs.StepsLaws.{twoGroups}
 use Rattle.parameters.specs.Parameters.{goodGroup, goodHalves, sum, percentages, validGroups, valid, compatible}
 
 pub group-low : (g : ℕ) → g ≤ 7 → true ≡ goodGroup g
@@ -27,7 +27,7 @@ two-first x {b} e n = rw (sym e ∙ not-true b n)
 pub two-second : (x : ℕ) {b d : Bool} → b ≡ goodGroup (x / 16) → not b ≡ false → d ≡ goodGroup (x % 16) → d ≡ twoGroups x
 two-second x {b} {d} e n f = rw (sym e ∙ not-false b n, f)
 
--- ---- the octets before i hold good groups: those from i on decide
+-- ---- the octets before i store good groups: those from i on decide
 
 pub record Halves (s : List ℕ) (i : ℕ) : Type 0 where
   pub below : i ≤ length s

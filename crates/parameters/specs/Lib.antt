@@ -1,5 +1,5 @@
 pub mod Parameters
-pub mod Steps
+pub mod StepsLaws
 pub mod ListLaws
 pub mod AllLaws
 pub mod GroupsLaws
@@ -7,6 +7,6 @@ pub mod FlowLaws
 pub mod ApplicationsLaws
 pub mod FeatureLaws
 pub mod PlainLaws
-pub mod HoldingLaws
+pub mod StoringLaws
 pub mod CompatibleLaws
 pub mod WritingLaws

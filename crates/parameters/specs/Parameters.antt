@@ -117,8 +117,8 @@ compatible Groups p q = same (take 12 p) (take 12 q)
 compatible Flow p q = mask p is mask q
 compatible Applications p q = allFrom (entryCount p) 0 (clearOf p q)
 
--- What is held of parameters that were read: "The OUI octets of an entry are not looked at when reading", so an application entry
--- is held, and written again, with OUI 00 1b 21. Its octet i of six, from i on.
+-- What is stored of parameters that were read: "The OUI octets of an entry are not looked at when reading", so an application entry
+-- is stored, and written again, with OUI 00 1b 21. Its octet i of six, from i on.
 unfoldable pub plainOctet : ℕ → ℕ → ℕ
 plainOctet i x =
     if i % 6 is 2 then x % 4

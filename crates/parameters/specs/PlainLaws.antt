@@ -12,7 +12,7 @@ use Rattle.octets.specs.Octets.{at}
 use Rattle.parameters.specs.declared.Feature.{Feature}
 use Rattle.parameters.specs.declared.Feature.the-variants.{Groups, Flow, Applications}
 use Rattle.parameters.specs.AllLaws.{all-same}
-use Rattle.parameters.specs.Steps.{heldOctet}
+use Rattle.parameters.specs.StepsLaws.{storedOctet}
 use Rattle.parameters.specs.Parameters.{entryCount, idOf, selectorOf, mapOf, sameName, newName, validApplications, valid, localValues, validLocal, clash, clearOf, compatible, plainOctet, plainFrom, plain}
 
 -- ---- octet by octet
@@ -54,8 +54,8 @@ at-from k (x ∷ p) (suc i) h =
     let e : k + suc i ≡ k + 1 + i = omega arith in
     rw e (at-from (k + 1) p i (λ l. rw e at (h (omega arith))))
 
-pub at-plain : (f : Feature) (p : List ℕ) (i : ℕ) → i < length p → at (plain f p) i ≡ heldOctet f i (at p i)
-unfolding plain heldOctet
+pub at-plain : (f : Feature) (p : List ℕ) (i : ℕ) → i < length p → at (plain f p) i ≡ storedOctet f i (at p i)
+unfolding plain storedOctet
 at-plain Groups p i h = refl
 at-plain Flow p i h = refl
 at-plain Applications p i h = let e : 0 + i ≡ i = omega arith in at-from 0 p i (λ l. absurd (omega arith)) ∙ rw e

@@ -13,17 +13,17 @@ pub record Size (p : Parameters) (n : ℕ) : Type 0 where
   pub small : n ≤ 96
 
 -- the part of the octets that the length tells
-module _ (p : Parameters) {held : List ℕ} {n : ℕ} (e : n ≡ p .length) (h : held ≡ take n (p .octets)) where
-  pub content-of : held ≡ content p
+module _ (p : Parameters) {kept : List ℕ} {n : ℕ} (e : n ≡ p .length) (h : kept ≡ take n (p .octets)) where
+  pub content-of : kept ≡ content p
   unfolding content
   content-of = h ∙ ap (λ (m : ℕ). take m (p .octets)) e
 
-  pub size-of : length (p .octets) ≡ 96 → Size p (length held)
+  pub size-of : length (p .octets) ≡ 96 → Size p (length kept)
   size-of l = record { is = ap length content-of; small = rw h (simp length-take (omega arith)) }
 
   module _ (out : List ℕ) (i : ℕ) where
-    pub room-of : i + length (content p) ≤ length out → i + length held ≤ length out
+    pub room-of : i + length (content p) ≤ length out → i + length kept ≤ length out
     room-of r = rw content-of r
 
-    pub put-of : {now : List ℕ} → now ≡ sets out i held → now ≡ sets out i (content p)
+    pub put-of : {now : List ℕ} → now ≡ sets out i kept → now ≡ sets out i (content p)
     put-of w = w ∙ ap (sets out i) content-of

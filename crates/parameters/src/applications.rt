@@ -123,7 +123,7 @@ pub fn compatible(p: &[u8], q: &[u8]) -> bool
     clear
 }
 
-// Octet `x` at place i of the entries as it is held: the OUI octets that came are not looked at, and 00 1b 21 stands for them.
+// Octet `x` at place i of the entries as it is stored: the OUI octets that came are not looked at, and 00 1b 21 stands for them.
 pub fn plain_octet(i: usize, x: u8) -> u8
     ensures { λ r. ⌜ r ≡ plainOctet i x ⌝ }
 {

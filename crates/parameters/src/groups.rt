@@ -3,7 +3,7 @@ ghost use mathlib.Core.Path.{_≡_};
 ghost use Prim.Native.Nat.{_≤_, min};
 ghost use lib.ListN.{length};
 ghost use Rattle.parameters.specs.Parameters.{compatible, goodGroup, goodHalves, sum, valid};
-ghost use Rattle.parameters.specs.Steps.{twoGroups};
+ghost use Rattle.parameters.specs.StepsLaws.{twoGroups};
 ghost use Rattle.parameters.specs.declared.Feature.the-variants.{Groups};
 
 // Whether the group number is 0 to 7 or 15.

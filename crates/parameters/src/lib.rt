@@ -1,8 +1,8 @@
-// The parameters of the three features: what is valid, what is compatible, and how they are held.
+// The parameters of the three features: what is valid, what is compatible, and how they are stored.
 ghost use mathlib.Core.Path.{_≡_};
 ghost use Prim.Native.Nat.{_≤_, min};
 ghost use Rattle.parameters.specs.Parameters.{compatible, featureNumber, plain, sameParameters, stored, valid, validLocal};
-ghost use Rattle.parameters.specs.Steps.{heldOctet};
+ghost use Rattle.parameters.specs.StepsLaws.{storedOctet};
 
 pub mod applications;
 pub mod flow;
@@ -69,16 +69,16 @@ pub fn compatible(f: Feature, p: &[u8], q: &[u8]) -> bool
     }
 }
 
-// The octets that are held of a length: at most 96.
+// The octets that are stored of a length: at most 96.
 pub fn clamped(n: usize) -> usize
     ensures { λ r. ⌜ (r ≡ min n 96) × (r ≤ 96) ⌝ }
 {
     if n < 96 { n } else { 96 }
 }
 
-// Octet `x` at place i of a feature's parameters, as it is held.
-fn held_octet(f: Feature, i: usize, x: u8) -> u8
-    ensures { λ r. ⌜ r ≡ heldOctet f i x ⌝ }
+// Octet `x` at place i of a feature's parameters, as it is stored.
+fn stored_octet(f: Feature, i: usize, x: u8) -> u8
+    ensures { λ r. ⌜ r ≡ storedOctet f i x ⌝ }
 {
     match f {
         Feature::Groups => x,
@@ -88,19 +88,19 @@ fn held_octet(f: Feature, i: usize, x: u8) -> u8
 }
 
 // The parameters as a state holds them: at most 96 octets, application entries with OUI 00 1b 21.
-pub fn hold(f: Feature, p: &[u8]) -> Parameters
+pub fn store(f: Feature, p: &[u8]) -> Parameters
     ensures { λ r. ⌜ r ≡ stored (plain f (now (p .entry))) ⌝ }
 {
     let n = clamped(p.len());
-    let mut held = [0; 96];
+    let mut kept = [0; 96];
     let mut i: usize = 0;
     while i < n {
-        held[i] = held_octet(f, i, p[i]);
+        kept[i] = stored_octet(f, i, p[i]);
         i += 1;
     }
     Parameters {
         length: (n % 256) as u8,
-        octets: held,
+        octets: kept,
     }
 }
 

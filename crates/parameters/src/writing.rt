@@ -11,8 +11,8 @@ use crate::Parameters;
 pub fn size(p: Parameters) -> usize
     ensures { λ r. ⌜ Size p r ⌝ }
 {
-    let held = octets::first(&p.octets, octets::wide(p.length));
-    held.len()
+    let content = octets::first(&p.octets, octets::wide(p.length));
+    content.len()
 }
 
 // Writes them at `at`, where the caller has room for them.

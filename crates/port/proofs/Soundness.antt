@@ -25,14 +25,14 @@ use Rattle.feature.specs.declared.Setting.{Setting}
 use Rattle.feature.specs.declared.Peer.{Peer}
 use Rattle.feature.specs.declared.Outcome.{Outcome}
 use Rattle.feature.specs.declared.State.{State}
-use Rattle.feature.specs.Outcome.{Received, operOf, maxOf, parametersOf, configuration, lower, heldPeer, withoutPeer, settled, outcome}
+use Rattle.feature.specs.Outcome.{Received, operOf, maxOf, parametersOf, configuration, lower, heldPeer, withoutPeer, judged, outcome}
 use Rattle.feature.specs.State.{next, withOutcome, controlTwice, acknowledged, received, changed, marked}
 use Rattle.port.specs.declared.Port.{Port}
 use Rattle.port.specs.Parts.{featureOf, withControl, some}
 use Rattle.port.specs.PortEvents.{withSeq, unsynced, sent, step5, completed}
 use Rattle.port.specs.Handling.{Message, message, twice, met, exchanged, once, steps1to4}
 use Rattle.port.specs.Sound.{SoundParameters, SoundSetting, SoundPeer, SoundState, SoundControl, SoundPort}
-use Rattle.feature.specs.RulesLaws.{judged, settled-by}
+use Rattle.feature.specs.RulesLaws.{judgedBy, judged-by}
 
 -- ---- outcomes
 
@@ -57,15 +57,15 @@ module _ (f : Feature) (max : ℕ) (s : Setting) (h : SoundSetting f s) where
     held-sound : SoundPeer f p
     held-sound = record { none = λ e. absurd (false≢true (sym e ∙ held)); some = λ e. good }
 
-    judged-sound : (a b c : Bool) → SoundOutcome f max (judged a b c (s .willing) oper p)
-    unfolding judged
-    judged-sound false b c = record { oper = k; peer = held-sound; adopted = λ e. held }
-    judged-sound true false c = record { oper = k; peer = held-sound; adopted = λ e. held }
-    judged-sound true true true = record { oper = k; peer = held-sound; adopted = λ e. held }
-    judged-sound true true false = record { oper = k; peer = held-sound; adopted = λ e. held }
+    judgedBy-sound : (a b c : Bool) → SoundOutcome f max (judgedBy a b c (s .willing) oper p)
+    unfolding judgedBy
+    judgedBy-sound false b c = record { oper = k; peer = held-sound; adopted = λ e. held }
+    judgedBy-sound true false c = record { oper = k; peer = held-sound; adopted = λ e. held }
+    judgedBy-sound true true true = record { oper = k; peer = held-sound; adopted = λ e. held }
+    judgedBy-sound true true false = record { oper = k; peer = held-sound; adopted = λ e. held }
 
-    pub settled-sound : SoundOutcome f max (settled f s oper p)
-    settled-sound = rw settled-by (judged-sound _ _ _)
+    pub judged-sound : SoundOutcome f max (judged f s oper p)
+    judged-sound = rw judged-by (judgedBy-sound _ _ _)
 
   -- rules 1 to 5 over their tests
   ruled-sound : (oper low : ℕ) → oper ≤ max → low ≤ max → (v : List ℕ) (a b c d e : Bool) → valid f (parametersOf v) ≡ e →
@@ -75,13 +75,13 @@ module _ (f : Feature) (max : ℕ) (s : Setting) (h : SoundSetting f s) where
       else if c then withoutPeer Bad oper true
       else if not d then withoutPeer Waiting low false
       else if not e then withoutPeer Bad low true
-      else settled f s low (heldPeer f v))
+      else judged f s low (heldPeer f v))
   ruled-sound oper low k l v true b c d e g = without-sound Absent max false (le-refl max)
   ruled-sound oper low k l v false true c d e g = without-sound Duplicate oper true k
   ruled-sound oper low k l v false false true d e g = without-sound Bad oper true k
   ruled-sound oper low k l v false false false false e g = without-sound Waiting low false l
   ruled-sound oper low k l v false false false true false g = without-sound Bad low true l
-  ruled-sound oper low k l v false false false true true g = settled-sound low l (heldPeer f v) refl (sound-stored f (parametersOf v) g)
+  ruled-sound oper low k l v false false false true true g = judged-sound low l (heldPeer f v) refl (sound-stored f (parametersOf v) g)
 
   pub outcome-sound : (oper : ℕ) → oper ≤ max → (r : Received) → SoundOutcome f max (outcome f max s oper r)
   unfolding outcome

@@ -11,8 +11,8 @@ use Rattle.octets.specs.Words.{if_then_else_, _below_, _is_}
 use Rattle.octets.specs.Laws.{and-left, and-right}
 use Rattle.tlv.specs.declared.Refusal.the-variants.{NotRunning, SeveralNeighbours, InvalidSetting, UnknownFeature}
 use Rattle.tlv.specs.declared.Contents.{Contents}
-use Rattle.tlv.specs.declared.Frame.{Frame}
-use Rattle.tlv.specs.declared.Frame.the-variants.{Refused, Accepted}
+use Rattle.tlv.specs.declared.Reading.{Reading}
+use Rattle.tlv.specs.declared.Reading.the-variants.{Refused, Accepted}
 use Rattle.tlv.specs.Layout.{readFrame}
 use Rattle.parameters.specs.declared.Feature.{Feature}
 use Rattle.parameters.specs.declared.Feature.the-variants.{Groups, Flow, Applications}
@@ -23,8 +23,8 @@ use Rattle.parameters.specs.HoldingLaws.{content-stored}
 use Rattle.feature.specs.declared.Setting.{Setting}
 use Rattle.feature.specs.declared.Switches.{Switches}
 use Rattle.feature.specs.declared.State.{State}
-use Rattle.feature.specs.Outcome.{lower, settled}
-use Rattle.feature.specs.State.{next, fresh, stopped, settingOf, sameSetting, resettled, reset}
+use Rattle.feature.specs.Outcome.{lower, judged}
+use Rattle.feature.specs.State.{next, fresh, stopped, settingOf, sameSetting, judgedAgain, reset}
 use Rattle.port.specs.declared.Flag.{Flag}
 use Rattle.port.specs.declared.Flag.the-variants.{Admin, Receive, Transmit, Several}
 use Rattle.port.specs.declared.Port.{Port}
@@ -36,7 +36,7 @@ use Rattle.port.specs.PortEvents.{sent, freshControl, freshParts, freshP
 use Rattle.port.specs.Handling.{Message, message, twice, met, exchanged, once, steps1to4, frameEvent, accepted, given, handled}
 use Rattle.port.specs.Sound.{SoundSetting, SoundState, SoundPort}
 use Rattle.port.proofs.Tests.{beq-not, each-true}
-use Rattle.port.proofs.Soundness.{Octets, sound-stored, SoundOutcome, settled-sound, next-small, either-sound, port-sound, sent-sound, completed-sound, steps-sound}
+use Rattle.port.proofs.Soundness.{Octets, sound-stored, SoundOutcome, judged-sound, next-small, either-sound, port-sound, sent-sound, completed-sound, steps-sound}
 use Rattle.port.proofs.Fresh.{state-again, fresh-sound, sent-alike, runs-alike, fresh-kept, fresh-same, fresh-again}
 
 pub record Standing (p : Port) : Type 0 where
@@ -75,7 +75,7 @@ pub handled-stands : (p : Port) (o : List ℕ) → Octets o → Standing p → S
 unfolding handled given accepted frameEvent
 handled-stands p o k h = by (running p) (p .several) (readFrame o) refl
   where
-    by : (a b : Bool) (x : Frame) → running p ≡ a
+    by : (a b : Bool) (x : Reading) → running p ≡ a
         → Standing ((if not a then refused NotRunning p else if b then refused SeveralNeighbours p else given o x p) .port)
     by false b x r = h
     by true true x r = h
@@ -165,25 +165,25 @@ module _ (f : Feature) (s : Setting) (k : SoundSetting f s) (x : State) (h : Sou
   with-setting-sound : SoundState f (withSetting x s)
   with-setting-sound = record { max = h .max; oper = h .oper; sequence = h .sequence; setting = k; peer = h .peer; adopted = h .adopted }
 
-  resettled-sound : SoundOutcome f (x .max) (resettled f s (x .outcome))
-  unfolding resettled
-  resettled-sound = by (s .advertise) (x .outcome .peer .held) refl
+  judgedAgain-sound : SoundOutcome f (x .max) (judgedAgain f s (x .outcome))
+  unfolding judgedAgain
+  judgedAgain-sound = by (s .advertise) (x .outcome .peer .held) refl
     where
       by : (a b : Bool) → x .outcome .peer .held ≡ b
           → SoundOutcome f (x .max)
           (if not a then
           record { reason = x .outcome .reason; oper = x .outcome .oper; error = x .outcome .error; mode = s .enable; peer = x .outcome .peer; adopts = false }
-          else if b then settled f s (x .outcome .oper) (x .outcome .peer)
+          else if b then judged f s (x .outcome .oper) (x .outcome .peer)
           else
           record { reason = x .outcome .reason; oper = x .outcome .oper; error = x .outcome .error; mode = x .outcome .mode; peer = x .outcome .peer; adopts = false })
       by false b e = record { oper = h .oper; peer = h .peer; adopted = λ e. absurd (false≢true e) }
-      by true true e = settled-sound f (x .max) s k (x .outcome .oper) (h .oper) (x .outcome .peer) e (h .peer .some e)
+      by true true e = judged-sound f (x .max) s k (x .outcome .oper) (h .oper) (x .outcome .peer) e (h .peer .some e)
       by true false e = record { oper = h .oper; peer = h .peer; adopted = λ e. absurd (false≢true e) }
 
   reset-sound : (seq : ℕ) → SoundState f (reset f seq s x)
   unfolding reset
   reset-sound seq =
-      let o = resettled-sound in
+      let o = judgedAgain-sound in
       either-sound f (Bool·beq (x .setting .advertise) (s .advertise)) _ _
       (record { max = h .max; oper = o .oper; sequence = h .sequence; setting = k; peer = o .peer; adopted = o .adopted })
       (fresh-sound (next seq) (x .max) s f (h .max) (next-small seq) k)

@@ -29,6 +29,7 @@ use Rattle.port.specs.declared.Event.{Event}
 use Rattle.notices.specs.declared.Kind.the-variants.{PeerGone}
 use Rattle.port.specs.Writing.{asks}
 use Rattle.port.specs.Parts.{featureOf, three, withControl, withFeatures, some, withFlag, flagOf, running}
+use Rattle.port.specs.Settled.{settled}
 use Rattle.port.specs.PortEvents.{unsynced, sent, withSeq, freshControl, freshParts, freshPort, completed, noticed, becomes, raises, restarts, flagSet, withFeature, withSetting, settingChanged, noSetting, blankPort, started, silent, event, unchanged, refused, flagNotice, flagged, peerGone, setTo, changedFeature, changedSetting, made, created, settingsValid}
 
 -- ---- the send rule
@@ -60,6 +61,29 @@ sent-counted p k x = by (some (λ f. unsynced (x f)) && k .rcvd is k .seq)
 pub sent-is : (p : Port) {g w a : Bool} {k : Control} → g ≡ unsynced (p .groups) → w ≡ unsynced (p .flow) → a ≡ unsynced (p .applications)
     → k ≡ counted ((g || w || a) && p .control .rcvd is p .control .seq) (p .control) → withControl p k ≡ sent p
 sent-is p eg ew ea ek = rw (ek, eg, ew, ea) (sym (sent-counted p (p .control) (featureOf p)))
+
+-- ---- settled
+
+module _ (p : Port) where
+  pub settled-unseen : not (p .control .seen) ≡ true → false ≡ settled p
+  unfolding settled
+  settled-unseen t = simp (not-true (p .control .seen) t)
+
+  module _ (s : not (p .control .seen) ≡ false) where
+    pub settled-outstanding : (p .control .rcvd ≡ p .control .seq → ⊥) → false ≡ settled p
+    unfolding settled
+    settled-outstanding n = simp (not-false (p .control .seen) s, ne-eqb (p .control .rcvd) (p .control .seq) n)
+
+    pub settled-by : {g w a : Bool} → p .control .rcvd ≡ p .control .seq → g ≡ unsynced (p .groups) → w ≡ unsynced (p .flow) → a ≡ unsynced (p .applications)
+        → not (g || w || a) ≡ settled p
+    unfolding settled
+    settled-by e eg ew ea =
+        simp (not-false (p .control .seen) s, eq-eqb (p .control .rcvd) (p .control .seq) e, ← eg, ← ew, ← ea) (none _ _ _)
+      where
+        none : (x y z : Bool) → not (x || y || z) ≡ (not x && not y && not z)
+        none true y z = refl
+        none false true z = refl
+        none false false z = refl
 
 -- ---- fresh states
 

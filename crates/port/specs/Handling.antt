@@ -6,8 +6,8 @@ use Rattle.octets.specs.Words.{if_then_else_, _below_, _is_}
 use Rattle.octets.specs.Octets.{at, number4}
 use Rattle.tlv.specs.declared.Refusal.the-variants as refusal
 use Rattle.tlv.specs.declared.Contents.{Contents}
-use Rattle.tlv.specs.declared.Frame.{Frame}
-use Rattle.tlv.specs.declared.Frame.the-variants.{Refused, Accepted}
+use Rattle.tlv.specs.declared.Reading.{Reading}
+use Rattle.tlv.specs.declared.Reading.the-variants.{Refused, Accepted}
 use Rattle.tlv.specs.Layout.{readFrame, valueOf}
 use Rattle.parameters.specs.declared.Feature.{Feature}
 use Rattle.parameters.specs.declared.Feature.the-variants.{Groups, Flow, Applications}
@@ -83,7 +83,7 @@ frameEvent before after = event (markNotice before after) before after
 unfoldable pub accepted : List ℕ → Contents → Port → Event
 accepted o c p = frameEvent p (completed p (steps1to4 o c p))
 
-unfoldable pub given : List ℕ → Frame → Port → Event
+unfoldable pub given : List ℕ → Reading → Port → Event
 given o (Refused why) p = refused why p
 given o (Accepted c) p = accepted o c p
 

@@ -9,13 +9,13 @@ use mathlib.Core.List.{List, [], _∷_}
 use lib.ListN.{length, take, drop}
 use borrow.Author.Tests.{not-true, not-false, lt-ltb, le-ltb, eq-eqb, ne-eqb}
 use Rattle.octets.specs.Words.{if_then_else_, _below_, _is_}
-use Rattle.octets.specs.Octets.{at, number4, same}
+use Rattle.octets.specs.Octets.{at, number4, same, headed}
 use Rattle.tlv.specs.declared.Contents.{Contents}
 use Rattle.tlv.specs.declared.Found.{Found}
 use Rattle.tlv.specs.declared.Refusal.{Refusal}
 use Rattle.tlv.specs.declared.Refusal.the-variants.{NotRunning, SeveralNeighbours}
-use Rattle.tlv.specs.declared.Frame.{Frame}
-use Rattle.tlv.specs.declared.Frame.the-variants.{Refused, Accepted}
+use Rattle.tlv.specs.declared.Reading.{Reading}
+use Rattle.tlv.specs.declared.Reading.the-variants.{Refused, Accepted}
 use Rattle.tlv.specs.Promises.{Inside, ReadPromise}
 use Rattle.tlv.specs.Layout.{readFrame, valueOf}
 use Rattle.parameters.specs.declared.Feature.{Feature}
@@ -28,8 +28,8 @@ use Rattle.feature.specs.declared.steps.Course.{Course}
 use Rattle.feature.specs.declared.steps.Course.the-variants.{Twice, OtherVersion, Exchange}
 use Rattle.feature.specs.declared.steps.Turn.{Turn}
 use Rattle.feature.specs.Outcome.{lower}
-use Rattle.feature.specs.State.{flags, headed, subTlv, controlTwice, acknowledged, received, changed, marked}
-use Rattle.feature.specs.TurnLaws.{Same, after, turnOf, heldAfter, renewed, changedBy, changed-by, after-same, renewed-after}
+use Rattle.feature.specs.State.{flags, subTlv, controlTwice, acknowledged, received, changed, marked}
+use Rattle.feature.specs.TurnLaws.{Same, after, turnOf, peerParametersAfter, renewed, changedBy, changed-by, after-same, renewed-after}
 use Rattle.port.specs.declared.handling.Heard.{Heard}
 use Rattle.port.specs.declared.handling.Change.{Change}
 use Rattle.port.specs.declared.Control.{Control}
@@ -47,14 +47,14 @@ use Rattle.port.specs.Handling.{Message, hasOf, message, seenTwice, twic
 
 -- ---- which frames are taken
 
-unfoldable pub admitted : Port → List ℕ → Frame
+unfoldable pub admitted : Port → List ℕ → Reading
 admitted p o =
     if not (running p) then Refused NotRunning
     else if p .several then Refused SeveralNeighbours
     else readFrame o
 
 -- a frame that is taken lies inside the octets, and the port runs
-pub record Admits (p : Port) (o : List ℕ) (r : Frame) : Type 0 where
+pub record Admits (p : Port) (o : List ℕ) (r : Reading) : Type 0 where
   pub answers : r ≡ admitted p o
   pub inside : (c : Contents) → r ≡ Accepted c → Inside o c
   pub runs : (c : Contents) → r ≡ Accepted c → running p ≡ true
@@ -77,7 +77,7 @@ module _ (p : Port) (o : List ℕ) {b : Bool} (e : b ≡ running p) where
     unfolding admitted
     admit-several u = refused-admits (rw (← e, t, u) refl)
 
-    pub admit-read : {r : Frame} → p .several ≡ false → ReadPromise o r → Admits p o r
+    pub admit-read : {r : Reading} → p .several ≡ false → ReadPromise o r → Admits p o r
     unfolding admitted
     admit-read u h = record { answers = h .is ∙ rw (← e, t, u) refl; inside = h .inside; runs = λ c q. sym e ∙ not-false b t }
 
@@ -278,18 +278,18 @@ module _ (o : List ℕ) (c : Contents) (p : Port) where
         rw done (λ i. record { course = eh i .course; wish = wish i; control = uk i; groups = eg i; flow = ew i; applications = ea i; notices = notices i })
 
   part-made : (f : Feature) {t : Turn} {way : Course} {x : Parameters} {y : State} → way ≡ heardOf o c (p .control) .course → t ≡ turnOf (stateBy o c p (heardOf o c (p .control)) f)
-      → x ≡ heldAfter way f (hasOf o c f .value) (t .decision .held) (featureOf p f) → y ≡ renewed (featureOf p f) t x → y ≡ stateBy o c p (heardOf o c (p .control)) f
+      → x ≡ peerParametersAfter way f (hasOf o c f .value) (t .decision .held) (featureOf p f) → y ≡ renewed (featureOf p f) t x → y ≡ stateBy o c p (heardOf o c (p .control)) f
   part-made f {t} {way} {x} {y} ew et ex ey =
       let h : Heard = heardOf o c (p .control) in
       let v : List ℕ = hasOf o c f .value in
       let z : State = stateBy o c p h f in
-      let e : x ≡ heldAfter (h .course) f v (z .outcome .peer .held) (featureOf p f) = ex ∙ (λ i. heldAfter (ew i) f v (et i .decision .held) (featureOf p f)) in
+      let e : x ≡ peerParametersAfter (h .course) f v (z .outcome .peer .held) (featureOf p f) = ex ∙ (λ i. peerParametersAfter (ew i) f v (et i .decision .held) (featureOf p f)) in
       ey ∙ (λ i. renewed (featureOf p f) (et i) (e i)) ∙ renewed-after (h .course) f (hasOf o c f) (h .control .rcvd) (p .control .seq) (featureOf p f)
 
   pub apply-is : {k : Change} → k ≡ changeOf o c p
-      → {x y z : Parameters} → x ≡ heldAfter (k .course) Groups (valueOf o (c .groups)) (k .groups .decision .held) (p .groups)
-      → y ≡ heldAfter (k .course) Flow (valueOf o (c .flow)) (k .flow .decision .held) (p .flow)
-      → z ≡ heldAfter (k .course) Applications (valueOf o (c .applications)) (k .applications .decision .held) (p .applications)
+      → {x y z : Parameters} → x ≡ peerParametersAfter (k .course) Groups (valueOf o (c .groups)) (k .groups .decision .held) (p .groups)
+      → y ≡ peerParametersAfter (k .course) Flow (valueOf o (c .flow)) (k .flow .decision .held) (p .flow)
+      → z ≡ peerParametersAfter (k .course) Applications (valueOf o (c .applications)) (k .applications .decision .held) (p .applications)
       → {g w a : State} → g ≡ renewed (p .groups) (k .groups) x → w ≡ renewed (p .flow) (k .flow) y → a ≡ renewed (p .applications) (k .applications) z
       → withFeatures (withControl p (k .control)) (three g w a) ≡ completed p (steps1to4 o c p)
   unfolding changeOf

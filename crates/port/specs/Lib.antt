@@ -3,6 +3,7 @@ pub mod Writing
 pub mod WritingLaws
 pub mod PortEvents
 pub mod Handling
+pub mod Settled
 pub mod Sound
 pub mod EventLaws
 pub mod HandlingLaws

@@ -5,8 +5,8 @@ use mathlib.Core.Path.{_≡_}
 use mathlib.Core.List.{List, [], _∷_, _++_}
 use lib.ListN.{length, drop}
 use Rattle.octets.specs.Words.{if_then_else_, _below_}
-use Rattle.octets.specs.Octets.{octets4, same}
-use Rattle.tlv.specs.Layout.{head, fixedOctets}
+use Rattle.octets.specs.Octets.{octets4, same, head}
+use Rattle.tlv.specs.Layout.{fixedOctets}
 use Rattle.tlv.specs.declared.Refusal.the-variants.{NotRunning, ShortOutput}
 use Rattle.parameters.specs.declared.Feature.the-variants.{Groups, Flow, Applications}
 use Rattle.feature.specs.State.{subTlv}

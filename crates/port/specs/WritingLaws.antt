@@ -11,15 +11,15 @@ use lib.Dec.{eqb}
 use lib.ListN.{length, drop, take, length-append}
 use lib.Seq.{sets, sets-eq, take-append-seam, drop-append-seam, take-at, drop-at}
 use Rattle.octets.specs.Words.{if_then_else_}
-use Rattle.octets.specs.Octets.{at, number4, octets4, same}
+use Rattle.octets.specs.Octets.{at, number4, octets4, same, headed, head}
 use Rattle.octets.specs.Laws.{and-left, and-right, same-is, same-refl, unlike, sets-append}
 use Rattle.tlv.specs.declared.Refusal.the-variants.{NotRunning, ShortOutput}
-use Rattle.tlv.specs.Layout.{head, frameHead}
+use Rattle.tlv.specs.Layout.{frameHead}
 use Rattle.parameters.specs.declared.Feature.{Feature}
 use Rattle.parameters.specs.declared.Feature.the-variants.{Groups, Flow, Applications}
 use Rattle.parameters.specs.Parameters.{featureNumber, content, validGroups, validFlow, validApplications, valid}
 use Rattle.feature.specs.declared.State.{State}
-use Rattle.feature.specs.State.{value, headed, subTlv, changed}
+use Rattle.feature.specs.State.{value, subTlv, changed}
 use Rattle.feature.specs.StateLaws.{Sized, changed-not}
 use Rattle.port.specs.declared.Control.{Control}
 use Rattle.port.specs.declared.Port.{Port}

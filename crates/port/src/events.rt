@@ -6,6 +6,7 @@ ghost use Rattle.tlv.specs.declared.Refusal.the-variants.{InvalidSetting};
 ghost use Rattle.port.specs.Parts.{featureOf, withFeatures, three, flagOf, withFlag};
 ghost use Rattle.octets.specs.Words.{_is_};
 ghost use Rattle.port.specs.EventLaws.{counted};
+ghost use Rattle.port.specs.Settled.{settled};
 ghost use Rattle.port.specs.PortEvents.{unsynced, sent, freshControl, freshParts, freshPort, completed, noticed, becomes, raises, silent, refused, unchanged, flagNotice, restarts, flagSet, withFeature, withSetting, settingChanged, blankPort, started, event, flagged, peerGone, setTo, changedFeature, changedSetting, made, created};
 use crate::Answer;
 use crate::Control;
@@ -30,6 +31,23 @@ fn unsynced(x: State) -> bool
 {
     let s = x.setting;
     s.advertise & !x.syncd
+}
+
+// Whether the exchange has come to rest at this end: a peer is seen, RcvdAckNo = SeqNo, and no advertised feature waits.
+pub fn settled(p: Port) -> bool
+    ensures { λ r. ⌜ r ≡ settled p ⌝ }
+{
+    let k = p.control;
+    if !k.seen {
+        return false;
+    }
+    if k.rcvd != k.seq {
+        return false;
+    }
+    let g = unsynced(p.groups);
+    let w = unsynced(p.flow);
+    let a = unsynced(p.applications);
+    !(g | w | a)
 }
 
 // The send rule (01, Port events) on the control: `waiting` says that an advertised feature waits for an acknowledgement.

@@ -6,7 +6,7 @@ ghost use Prim.Native.Nat.{_+_, _≤_};
 ghost use lib.ListN.{length};
 ghost use Rattle.tlv.specs.Layout.{valueOf};
 ghost use Rattle.tlv.specs.Promises.{Inside};
-ghost use Rattle.feature.specs.TurnLaws.{changedBy, heldAfter};
+ghost use Rattle.feature.specs.TurnLaws.{changedBy, peerParametersAfter};
 ghost use Rattle.port.specs.Parts.{running};
 ghost use Rattle.port.specs.PortEvents.{becomes, completed};
 ghost use Rattle.port.specs.Handling.{steps1to4};
@@ -23,7 +23,7 @@ use parameters::Feature;
 use parameters::Parameters;
 use tlv::Contents;
 use tlv::Found;
-use tlv::Frame;
+use tlv::Reading;
 use tlv::Refusal;
 
 // What a frame changes in a port, but for the parameters held of the peer.
@@ -38,14 +38,14 @@ pub struct Change {
 }
 
 // Reads a frame that arrived, if the port takes it.
-pub fn admit(p: Port, s: &[u8]) -> Frame
+pub fn admit(p: Port, s: &[u8]) -> Reading
     ensures { λ r. ⌜ Admits p (now (s .entry)) r ⌝ }
 {
     if !crate::writing::running(p) {
-        return Frame::Refused(Refusal::NotRunning);
+        return Reading::Refused(Refusal::NotRunning);
     }
     if p.several {
-        return Frame::Refused(Refusal::SeveralNeighbours);
+        return Reading::Refused(Refusal::SeveralNeighbours);
     }
     tlv::read(s)
 }
@@ -200,12 +200,12 @@ pub fn decide(p: Port, s: &[u8], c: Contents) -> Change
 }
 
 // The parameters that are held of the peer after a frame.
-fn held(f: Feature, x: State, course: Course, t: Turn, s: &[u8], found: Found) -> Parameters
+fn peer_parameters(f: Feature, x: State, course: Course, t: Turn, s: &[u8], found: Found) -> Parameters
     requires { ⌜ found .start + found .length ≤ length (now s) ⌝ }
-    ensures { λ r. ⌜ r ≡ heldAfter course f (valueOf (now (s .entry)) found) (t .decision .held) x ⌝ }
+    ensures { λ r. ⌜ r ≡ peerParametersAfter course f (valueOf (now (s .entry)) found) (t .decision .held) x ⌝ }
 {
     let d = t.decision;
-    feature::steps::held_after(f, x, course, d.held, part(s, found))
+    feature::steps::peer_parameters_after(f, x, course, d.held, part(s, found))
 }
 
 // The port after a frame that is accepted, by what `decide` says that it changes.
@@ -215,9 +215,9 @@ pub fn apply(p: Port, k: Change, s: &[u8], c: Contents) -> Port
 {
     let course = k.course;
     let control = k.control;
-    let x = held(Feature::Groups, p.groups, course, k.groups, s, c.groups);
-    let y = held(Feature::Flow, p.flow, course, k.flow, s, c.flow);
-    let z = held(
+    let x = peer_parameters(Feature::Groups, p.groups, course, k.groups, s, c.groups);
+    let y = peer_parameters(Feature::Flow, p.flow, course, k.flow, s, c.flow);
+    let z = peer_parameters(
         Feature::Applications,
         p.applications,
         course,

@@ -1,7 +1,7 @@
 pub mod Text
 pub mod Forms
 pub mod Lines
-pub mod Steps
+pub mod StepsLaws
 pub mod TextLaws
 pub mod FormsLaws
 pub mod WordsLaws

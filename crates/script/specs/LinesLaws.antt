@@ -26,7 +26,7 @@ use Rattle.script.specs.declared.Line.{Line}
 use Rattle.script.specs.Text.{words, first, others, number, listed, isOctets, octetsOf}
 use Rattle.script.specs.Forms.{fits, allDue, numbersFrom, noValues, counted, valuesOf, parameterCount, parameterAt, parametersOf}
 use Rattle.script.specs.Lines.{passedOver, filled, lineOf, bare, unreadable, settingKind, settingWith, feature, plain, partName, settingOf, settingLine, goneWord, takeWord, showWord, setWord, writeWord, adminWord, receiveWord, transmitWord, severalWord, flagWord, keyword, alone, flag, formOf, changeOf, eventOf, isFrame, eventLine}
-use Rattle.script.specs.Steps.{firstWord, rest}
+use Rattle.script.specs.StepsLaws.{firstWord, rest}
 use Rattle.script.specs.TextLaws.{length-listed}
 use Rattle.script.specs.WordsLaws.{first-word, other-words}
 use Rattle.script.specs.ReadingLaws.{fits-most}

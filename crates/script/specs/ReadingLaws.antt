@@ -19,7 +19,7 @@ use Rattle.script.specs.declared.text.Number.{Number}
 use Rattle.script.specs.declared.text.Number.the-variants.{Is, Not}
 use Rattle.script.specs.Text.{words, first, others}
 use Rattle.script.specs.Forms.{fieldNumber, oneField, fits, due, isSome, value, allDue, numbersFrom, noValues, counted, valuesOf}
-use Rattle.script.specs.Steps.{firstWord, rest}
+use Rattle.script.specs.StepsLaws.{firstWord, rest}
 use Rattle.script.specs.WordsLaws.{words-over, words-more, first-word, other-words}
 
 -- ---- one word that is left

@@ -16,7 +16,7 @@ use Rattle.octets.specs.Laws.{and-left}
 use Rattle.script.specs.declared.text.Number.the-variants.{Is, Not}
 use Rattle.script.specs.Text.{isDigit, decimalDigits, decimalFrom, decimal, isNumber, number, nibble, hexDigits, isOctets, pairAt, listed, octetsOf}
 use Rattle.script.specs.Lines.{filled}
-use Rattle.script.specs.Steps.{run, Nibbles}
+use Rattle.script.specs.StepsLaws.{run, Nibbles}
 
 -- ---- digits
 

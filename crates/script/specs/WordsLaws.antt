@@ -10,7 +10,7 @@ use lib.Seq.{append-snoc}
 use borrow.Author.Tests.{ne-eqb}
 use Rattle.octets.specs.Words.{_is_}
 use Rattle.script.specs.Text.{ended, wordsFrom, words, first, others}
-use Rattle.script.specs.Steps.{run, firstWord, rest}
+use Rattle.script.specs.StepsLaws.{run, firstWord, rest}
 
 -- a word that has begun goes on to the next space
 begun : (w s : List ℕ) → wordsFrom w s ≡ ended (w ++ take (run false s) s) (words (drop (run false s) s))

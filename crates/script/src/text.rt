@@ -3,7 +3,7 @@ ghost use mathlib.Core.Path.{_≡_};
 ghost use Prim.Native.Nat.{_+_, _*_, _/_, _%_, _<_, min};
 ghost use lib.ListN.{length};
 ghost use Rattle.script.specs.Text.{isDigit, number, nibble, hexDigits, pairAt, octetsOf, isOctets};
-ghost use Rattle.script.specs.Steps.{run, firstWord, rest, Nibbles};
+ghost use Rattle.script.specs.StepsLaws.{run, firstWord, rest, Nibbles};
 ghost use Rattle.script.specs.Lines.{filled};
 
 const SPACE: u8 = 32;

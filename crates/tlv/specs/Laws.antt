@@ -15,8 +15,8 @@ use Rattle.tlv.specs.declared.Head.the-variants.{Past, SubTlv}
 use Rattle.tlv.specs.declared.Found.{Found}
 use Rattle.tlv.specs.declared.Contents.{Contents}
 use Rattle.tlv.specs.declared.Walk.{Walk}
-use Rattle.tlv.specs.declared.Frame.{Frame}
-use Rattle.tlv.specs.declared.Frame.the-variants.{Refused, Accepted}
+use Rattle.tlv.specs.declared.Reading.{Reading}
+use Rattle.tlv.specs.declared.Reading.the-variants.{Refused, Accepted}
 use Rattle.tlv.specs.Layout.{fixedOctets, typeAt, lengthAt, headAt, counts, foundAgain, noted, noContents, onward, walkFrom, walked, isDcbx, judgedControl, readFrame}
 use Rattle.tlv.specs.Promises.{Inside, WalkPromise, ReadPromise}
 
@@ -279,7 +279,7 @@ module _ (o : List ℕ) {b : Bool} where
   unfolding readFrame
   read-past {n} e t l m w p = refused-promise (simp (sym e, t, sym l, eq-eqb (n + 2) (length o) m, sym (w .is), p))
 
-  pub read-judged : {n : ℕ} {w : Walk} {r : Frame} → b ≡ isDcbx o → not b ≡ false → n ≡ lengthAt o 0 → n + 2 ≡ length o → WalkPromise o w
+  pub read-judged : {n : ℕ} {w : Walk} {r : Reading} → b ≡ isDcbx o → not b ≡ false → n ≡ lengthAt o 0 → n + 2 ≡ length o → WalkPromise o w
       → w .past ≡ false → r ≡ judgedControl o (w .contents) → ReadPromise o r
   unfolding readFrame
   read-judged {n} {w} e t l m k p j =
@@ -289,5 +289,5 @@ module _ (o : List ℕ) {b : Bool} where
       }
 
 -- for callers, after a `match`: an accepted frame's values lie within it
-pub accepted-inside : {o : List ℕ} {r : Frame} {c : Contents} → ReadPromise o r → r ≡ Accepted c → Inside o c
+pub accepted-inside : {o : List ℕ} {r : Reading} {c : Contents} → ReadPromise o r → r ≡ Accepted c → Inside o c
 accepted-inside {o} {r} {c} p e = p .inside c e

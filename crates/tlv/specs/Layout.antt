@@ -4,15 +4,15 @@ use mathlib.Core.Bool.{Bool, true, false, not, _&&_, _||_}
 use mathlib.Core.List.{List, [], _∷_, _++_}
 use lib.ListN.{length, take, drop}
 use Rattle.octets.specs.Words.{if_then_else_, _below_, _atmost_, _is_}
-use Rattle.octets.specs.Octets.{at, same}
+use Rattle.octets.specs.Octets.{at, head, same}
 use Rattle.tlv.specs.declared.Refusal.the-variants.{NotDcbx, WrongLength, PastEnd, NoControl, ControlLength, ControlVersion}
 use Rattle.tlv.specs.declared.Head.{Head}
 use Rattle.tlv.specs.declared.Head.the-variants.{Past, SubTlv}
 use Rattle.tlv.specs.declared.Found.{Found}
 use Rattle.tlv.specs.declared.Contents.{Contents}
 use Rattle.tlv.specs.declared.Walk.{Walk}
-use Rattle.tlv.specs.declared.Frame.{Frame}
-use Rattle.tlv.specs.declared.Frame.the-variants.{Refused, Accepted}
+use Rattle.tlv.specs.declared.Reading.{Reading}
+use Rattle.tlv.specs.declared.Reading.the-variants.{Refused, Accepted}
 
 -- "OUI 00 1b 21, subtype 2"
 abbrev pub fixedOctets : List ℕ
@@ -24,10 +24,6 @@ typeAt o i = at o i / 2
 
 abbrev pub lengthAt : List ℕ → ℕ → ℕ
 lengthAt o i = at o i % 2 * 256 + at o (i + 1)
-
--- the two octets of a head
-abbrev pub head : ℕ → ℕ → List ℕ
-head type n = (type * 2 + n / 256) ∷ (n % 256) ∷ []
 
 -- "The TLV is type 127, OUI 00 1b 21, subtype 2, then sub-TLVs": what stands before sub-TLVs of n octets
 abbrev pub frameHead : ℕ → List ℕ
@@ -87,7 +83,7 @@ unfoldable pub isDcbx : List ℕ → Bool
 isDcbx o = 6 atmost length o && typeAt o 0 is 127 && same (take 4 (drop 2 o)) fixedOctets
 
 -- 6: "no control sub-TLV"; 7: "exactly one control, length not 10"; 8: "its Oper is above its Max"
-unfoldable pub judgedControl : List ℕ → Contents → Frame
+unfoldable pub judgedControl : List ℕ → Contents → Reading
 judgedControl o c =
     if c .control .count is 0 then Refused NoControl
     else if 1 below c .control .count then Accepted c
@@ -96,7 +92,7 @@ judgedControl o c =
     else Accepted c
 
 -- 4: "length field is not the octets after the head"; 5: "a sub-TLV, or its head, runs past the end"
-unfoldable pub readFrame : List ℕ → Frame
+unfoldable pub readFrame : List ℕ → Reading
 readFrame o =
     if not (isDcbx o) then Refused NotDcbx
     else if not (lengthAt o 0 + 2 is length o) then Refused WrongLength

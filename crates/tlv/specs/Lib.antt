@@ -2,6 +2,6 @@ pub mod Refusals
 pub mod Layout
 pub mod Promises
 pub mod Laws
-pub mod Values
+pub mod ValuesLaws
 pub mod WrittenLaws
-pub mod Written
+pub mod ReadBackLaws

@@ -5,8 +5,8 @@ use mathlib.Core.List.{List}
 use lib.ListN.{length}
 use Rattle.tlv.specs.declared.Contents.{Contents}
 use Rattle.tlv.specs.declared.Walk.{Walk}
-use Rattle.tlv.specs.declared.Frame.{Frame}
-use Rattle.tlv.specs.declared.Frame.the-variants.{Accepted}
+use Rattle.tlv.specs.declared.Reading.{Reading}
+use Rattle.tlv.specs.declared.Reading.the-variants.{Accepted}
 use Rattle.tlv.specs.Layout.{walked, readFrame}
 
 -- each value that was found lies within the octets
@@ -20,6 +20,6 @@ pub record WalkPromise (o : List ℕ) (w : Walk) : Type 0 where
   pub is : w ≡ walked o
   pub inside : Inside o (w .contents)
 
-pub record ReadPromise (o : List ℕ) (r : Frame) : Type 0 where
+pub record ReadPromise (o : List ℕ) (r : Reading) : Type 0 where
   pub is : r ≡ readFrame o
   pub inside : (c : Contents) → r ≡ Accepted c → Inside o c

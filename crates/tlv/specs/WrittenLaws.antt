@@ -13,11 +13,11 @@ use Rattle.octets.specs.Octets.{at, same}
 use Rattle.tlv.specs.declared.Head.the-variants.{SubTlv}
 use Rattle.tlv.specs.declared.Contents.{Contents}
 use Rattle.tlv.specs.declared.Walk.{Walk}
-use Rattle.tlv.specs.declared.Frame.the-variants.{Accepted}
+use Rattle.tlv.specs.declared.Reading.the-variants.{Accepted}
 use Rattle.tlv.specs.Layout.{typeAt, lengthAt, headAt, counts, foundAgain, noted, onward, walkFrom, walked, isDcbx, judgedControl, readFrame}
 use Rattle.tlv.specs.Laws.{choice, head-whole, walked-inside, one-control}
 use Rattle.tlv.specs.Promises.{Inside}
-use Rattle.tlv.specs.Values.{Tlv, octetsOf, octetsAll, frameOf, Values, OneControl, valuesIn, noValue, noValues, countedAgain, countsValue, notedValue, notedValues, Part, Parts, partOctets, partsOctets, partsValues, LaidOut}
+use Rattle.tlv.specs.ValuesLaws.{Tlv, octetsOf, octetsAll, frameOf, Values, OneControl, valuesIn, noValue, noValues, countedAgain, countsValue, notedValue, notedValues, Part, Parts, partOctets, partsOctets, partsValues, LaidOut}
 
 -- a value is short enough for its length field
 abbrev pub Sized : List Tlv → Type 0

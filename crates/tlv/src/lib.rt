@@ -75,7 +75,7 @@ pub struct Walk {
 }
 
 // What reading a frame gives.
-pub enum Frame {
+pub enum Reading {
     Refused(Refusal),
     Accepted(Contents),
 }
@@ -249,40 +249,40 @@ fn is_dcbx(s: &[u8]) -> bool
 }
 
 // The control sub-TLV of a frame that was walked whole.
-fn judge_control(s: &[u8], c: Contents) -> Frame
+fn judge_control(s: &[u8], c: Contents) -> Reading
     requires { ⌜ Inside (now s) c ⌝ }
     ensures { λ r. ⌜ r ≡ judgedControl (now (s .entry)) c ⌝ }
 {
     let control = c.control;
     if control.count == 0 {
-        return Frame::Refused(Refusal::NoControl);
+        return Reading::Refused(Refusal::NoControl);
     }
     if 1 < control.count {
-        return Frame::Accepted(c);
+        return Reading::Accepted(c);
     }
     if control.length != CONTROL_LENGTH {
-        return Frame::Refused(Refusal::ControlLength);
+        return Reading::Refused(Refusal::ControlLength);
     }
     let start = control.start;
     if s[start + 1] < s[start] {
-        return Frame::Refused(Refusal::ControlVersion);
+        return Reading::Refused(Refusal::ControlVersion);
     }
-    Frame::Accepted(c)
+    Reading::Accepted(c)
 }
 
 // Reads a frame: refusals 3 to 8, lowest number first (01, Refusal numbers), or what it has.
-pub fn read(s: &[u8]) -> Frame
+pub fn read(s: &[u8]) -> Reading
     ensures { λ r. ⌜ ReadPromise (now (s .entry)) r ⌝ }
 {
     if !is_dcbx(s) {
-        return Frame::Refused(Refusal::NotDcbx);
+        return Reading::Refused(Refusal::NotDcbx);
     }
     if length_at(s, 0) + 2 != s.len() {
-        return Frame::Refused(Refusal::WrongLength);
+        return Reading::Refused(Refusal::WrongLength);
     }
     let walk = walk_sub_tlvs(s);
     if walk.past {
-        return Frame::Refused(Refusal::PastEnd);
+        return Reading::Refused(Refusal::PastEnd);
     }
     judge_control(s, walk.contents)
 }

@@ -3,7 +3,7 @@ use crate::steps;
 use port::Answer;
 use port::Written;
 use tlv::Found;
-use tlv::Frame;
+use tlv::Reading;
 
 // The place of the frame behind the one at `at`; behind the last comes the first.
 fn place_behind(all: usize, at: usize, size: usize) -> usize {
@@ -30,12 +30,12 @@ fn end_of(x: Found) -> u64 {
 }
 
 // Something of a frame that was read.
-fn seen(f: Frame) -> u64 {
+fn seen(f: Reading) -> u64 {
     match f {
-        Frame::Refused(why) => {
+        Reading::Refused(why) => {
             return tlv::refusal_number(why) as u64;
         }
-        Frame::Accepted(c) => {
+        Reading::Accepted(c) => {
             let two = std::num::wrapping_add_u64(end_of(c.groups), end_of(c.flow));
             return std::num::wrapping_add_u64(two, end_of(c.applications));
         }

@@ -1,5 +1,5 @@
 -- `exchange::deliver` meets its contract. Assumes nothing.
-use Rattle.exchange.specs.Round.{received-frame, received-none}
+use Rattle.exchange.specs.RoundLaws.{received-frame, received-none}
 use borrow.Author.Needs.{needs}
 use Rattle.exchange.proofs.deliver.Statement.{statement}
 use Rattle.exchange.proofs.deliver.Tie as tie

@@ -1,5 +1,5 @@
 -- `exchange::round` meets its contract. Assumes nothing.
-use Rattle.exchange.specs.Round.{rounded}
+use Rattle.exchange.specs.RoundLaws.{rounded}
 use borrow.Author.Needs.{needs}
 use Rattle.exchange.proofs.round.Statement.{statement}
 use Rattle.exchange.proofs.round.Tie as tie

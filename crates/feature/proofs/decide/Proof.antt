@@ -1,5 +1,5 @@
 -- `feature::decide` meets its contract. Assumes nothing.
-use Rattle.feature.specs.OutcomeLaws.{outcome-absent, outcome-duplicate, outcome-short, outcome-above, outcome-waiting, outcome-invalid, outcome-settled}
+use Rattle.feature.specs.OutcomeLaws.{outcome-absent, outcome-duplicate, outcome-short, outcome-above, outcome-waiting, outcome-invalid, outcome-judged}
 use borrow.Author.Needs.{needs}
 use Rattle.feature.proofs.decide.Statement.{statement}
 use Rattle.feature.proofs.decide.Tie as tie
@@ -55,11 +55,11 @@ without-peer-requires-6 c κs = search needs
 returns-6 : tie.Need-returns-6
 returns-6 c = search outcome-invalid
 
-settle-value-requires : tie.Need-settle-value-requires
-settle-value-requires c κs = search needs
+judge-value-requires : tie.Need-judge-value-requires
+judge-value-requires c κs = search needs
 
 returns-7 : tie.Need-returns-7
-returns-7 c = search outcome-settled
+returns-7 c = search outcome-judged
 
 pub decide-spec : {M : Type 1} → statement M
 decide-spec =
@@ -82,5 +82,5 @@ decide-spec =
     valid-requires
     without-peer-requires-6
     returns-6
-    settle-value-requires
+    judge-value-requires
     returns-7)

@@ -1,6 +1,6 @@
 -- `same_parameters` meets its contract. Assumes nothing.
 use borrow.Author.Needs.{needs}
-use Rattle.parameters.specs.HoldingLaws.{parameters-length, parameters-octets}
+use Rattle.parameters.specs.StoringLaws.{parameters-length, parameters-octets}
 use Rattle.parameters.proofs.same_parameters.Statement.{statement}
 use Rattle.parameters.proofs.same_parameters.Tie as tie
 

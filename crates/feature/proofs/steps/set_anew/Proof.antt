@@ -13,8 +13,8 @@ fresh-at-requires c κs = search needs
 returns : tie.Need-returns
 returns c = search reset-anew
 
-resettle-requires : tie.Need-resettle-requires
-resettle-requires c κs = search needs
+judge-again-requires : tie.Need-judge-again-requires
+judge-again-requires c κs = search needs
 
 returns-2 : tie.Need-returns-2
 returns-2 c = search reset-kept
@@ -22,4 +22,4 @@ returns-2 c = search reset-kept
 pub set-anew-spec : {M : Type 1} → statement M
 set-anew-spec =
     tie.close
-    (tie.spec wrapping-add-u32-requires fresh-at-requires returns resettle-requires returns-2)
+    (tie.spec wrapping-add-u32-requires fresh-at-requires returns judge-again-requires returns-2)

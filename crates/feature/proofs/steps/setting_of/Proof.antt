@@ -3,11 +3,11 @@ use borrow.Author.Needs.{needs}
 use Rattle.feature.proofs.steps.setting_of.Statement.{statement}
 use Rattle.feature.proofs.steps.setting_of.Tie as tie
 
-hold-requires : tie.Need-hold-requires
-hold-requires c κs = search needs
+store-requires : tie.Need-store-requires
+store-requires c κs = search needs
 
 returns : tie.Need-returns
 returns c = cc
 
 pub setting-of-spec : {M : Type 1} → statement M
-setting-of-spec = tie.close (tie.spec hold-requires returns)
+setting-of-spec = tie.close (tie.spec store-requires returns)

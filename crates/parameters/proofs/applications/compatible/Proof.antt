@@ -6,7 +6,7 @@ use borrow.Author.Needs.{needs}
 use native.Mathlib.Omega.{arith}
 use Rattle.parameters.specs.Parameters.{entryCount, clearOf}
 use Rattle.parameters.specs.AllLaws.{Passed, passed-start}
-use Rattle.parameters.specs.Steps.{noClash}
+use Rattle.parameters.specs.StepsLaws.{noClash}
 use Rattle.parameters.specs.ApplicationsLaws.{row-more, walk-clash, walk-more, walk-end}
 use Rattle.parameters.proofs.applications.compatible.Statement.{statement}
 use Rattle.parameters.proofs.applications.compatible.Tie as tie

@@ -4,7 +4,7 @@ use borrow.Author.Needs.{needs}
 use native.Mathlib.Omega.{arith}
 use Rattle.parameters.specs.Parameters.{entryCount}
 use Rattle.parameters.specs.AllLaws.{Passed, passed-start}
-use Rattle.parameters.specs.Steps.{lowSelector}
+use Rattle.parameters.specs.StepsLaws.{lowSelector}
 use Rattle.parameters.specs.ApplicationsLaws.{selector-high, selector-more, selectors-low}
 use Rattle.parameters.proofs.applications.local_values.Statement.{statement}
 use Rattle.parameters.proofs.applications.local_values.Tie as tie

@@ -3,7 +3,7 @@ use Prim.Native.Nat.{_-_}
 use borrow.Author.Needs.{needs}
 use native.Mathlib.Omega.{arith}
 use Rattle.parameters.specs.AllLaws.{Passed, passed-start}
-use Rattle.parameters.specs.Steps.{otherName}
+use Rattle.parameters.specs.StepsLaws.{otherName}
 use Rattle.parameters.specs.ApplicationsLaws.{name-again, name-more, name-new}
 use Rattle.parameters.proofs.applications.new_name.Statement.{statement}
 use Rattle.parameters.proofs.applications.new_name.Tie as tie

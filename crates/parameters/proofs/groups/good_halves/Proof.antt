@@ -1,4 +1,4 @@
--- `groups::good_halves` meets its contract: the octets before i hold good groups. Assumes nothing.
+-- `groups::good_halves` meets its contract: the octets before i store good groups. Assumes nothing.
 use Prim.Native.Nat.{_-_}
 use lib.ListN.{length}
 use borrow.Author.Needs.{needs}

@@ -1,5 +1,5 @@
 -- `behind` meets its contract. Assumes nothing.
-use Rattle.script.specs.Steps.{rest}
+use Rattle.script.specs.StepsLaws.{rest}
 use borrow.Author.Needs.{needs}
 use Rattle.script.proofs.text.behind.Statement.{statement}
 use Rattle.script.proofs.text.behind.Tie as tie

@@ -1,5 +1,5 @@
 -- `word` meets its contract. Assumes nothing.
-use Rattle.script.specs.Steps.{firstWord}
+use Rattle.script.specs.StepsLaws.{firstWord}
 use borrow.Author.Needs.{needs}
 use Rattle.script.proofs.text.word.Statement.{statement}
 use Rattle.script.proofs.text.word.Tie as tie

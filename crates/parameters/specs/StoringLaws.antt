@@ -15,28 +15,28 @@ use Rattle.parameters.specs.declared.Feature.{Feature}
 use Rattle.parameters.specs.declared.Parameters.{Parameters}
 use Rattle.parameters.specs.Parameters.{plain, stored, content, sameParameters}
 use Rattle.parameters.specs.ListLaws.{take-min}
-use Rattle.parameters.specs.Steps.{heldOctet}
+use Rattle.parameters.specs.StepsLaws.{storedOctet}
 use Rattle.parameters.specs.PlainLaws.{length-plain, at-plain}
 
--- ---- the octets before i are held
+-- ---- the octets before i are stored
 
-pub record Holding (f : Feature) (p held : List ℕ) (n i : ℕ) : Type 0 where
+pub record Storing (f : Feature) (p kept : List ℕ) (n i : ℕ) : Type 0 where
   pub most : n ≡ min (length p) 96
   pub within : i ≤ n
-  pub octets : held ≡ take i (plain f p) ++ replicate (96 - i) 0
+  pub octets : kept ≡ take i (plain f p) ++ replicate (96 - i) 0
 
-pub holding-start : (f : Feature) (p : List ℕ) {n : ℕ} → n ≡ min (length p) 96 → Holding f p (replicate 96 0) n 0
-holding-start f p e = record { most = e; within = omega arith; octets = refl }
+pub storing-start : (f : Feature) (p : List ℕ) {n : ℕ} → n ≡ min (length p) 96 → Storing f p (replicate 96 0) n 0
+storing-start f p e = record { most = e; within = omega arith; octets = refl }
 
-module _ {f : Feature} {p held : List ℕ} {n i : ℕ} where
-  pub holding-more : {x : ℕ} → Holding f p held n i → i < n → x ≡ heldOctet f i (at p i) → Holding f p (set held i x) n (i + 1)
-  holding-more {x} r h e =
+module _ {f : Feature} {p kept : List ℕ} {n i : ℕ} where
+  pub storing-more : {x : ℕ} → Storing f p kept n i → i < n → x ≡ storedOctet f i (at p i) → Storing f p (set kept i x) n (i + 1)
+  storing-more {x} r h e =
       let l = length-plain f p in
       let k : i < length (plain f p) = omega arith in
       let m : 96 - i ≡ suc (96 - suc i) = omega arith in
       let a : at (plain f p) i ≡ x = at-plain f p i (omega arith) ∙ sym e in
-      let o : held ≡ take i (plain f p) ++ 0 ∷ replicate (96 - suc i) 0 = rw m at (r .octets) in
-      let t : set held i x ≡ take i (plain f p) ++ x ∷ replicate (96 - suc i) 0 =
+      let o : kept ≡ take i (plain f p) ++ 0 ∷ replicate (96 - suc i) 0 = rw m at (r .octets) in
+      let t : set kept i x ≡ take i (plain f p) ++ x ∷ replicate (96 - suc i) 0 =
       rw o (set-at (take i (plain f p)) 0 (replicate (96 - suc i) 0) x i (length-take-le i (plain f p) (omega arith))) in
       record {
         most = r .most;
@@ -44,18 +44,18 @@ module _ {f : Feature} {p held : List ℕ} {n i : ℕ} where
         octets = t ∙ rw (add-one, take-suc (plain f p) i 0 k, a) (sym (append-snoc (take i (plain f p)) x (replicate (96 - suc i) 0)));
       }
 
-  pub holding-end : Holding f p held n i → n ≤ i → record { length = n % 256; octets = held } ≡ stored (plain f p)
+  pub storing-end : Storing f p kept n i → n ≤ i → record { length = n % 256; octets = kept } ≡ stored (plain f p)
   unfolding stored
-  holding-end r h =
+  storing-end r h =
       let l = length-plain f p in
       let a : n % 256 ≡ length (take 96 (plain f p)) = simp length-take (omega arith) in
       let b : 96 - i ≡ 96 - length (plain f p) = omega arith in
       let d : i ≡ min 96 (length (plain f p)) = omega arith in
       let t : take i (plain f p) ≡ take 96 (plain f p) = rw d (take-min 96 (plain f p)) in
-      let o : held ≡ take 96 (plain f p) ++ replicate (96 - length (plain f p)) 0 = r .octets ∙ rw (t, b) in
+      let o : kept ≡ take 96 (plain f p) ++ replicate (96 - length (plain f p)) 0 = r .octets ∙ rw (t, b) in
       λ s. record { length = a s; octets = o s }
 
--- ---- what is held, as octets
+-- ---- what is stored, as octets
 
 pub content-stored : (p : List ℕ) → length p ≤ 96 → content (stored p) ≡ p
 unfolding content stored

@@ -1,8 +1,8 @@
--- `feature::steps::held_after` meets its contract. Assumes nothing.
+-- `feature::steps::peer_parameters_after` meets its contract. Assumes nothing.
 use Rattle.feature.specs.TurnLaws.{held-kept, held-brought, held-none}
 use borrow.Author.Needs.{needs}
-use Rattle.feature.proofs.steps.held_after.Statement.{statement}
-use Rattle.feature.proofs.steps.held_after.Tie as tie
+use Rattle.feature.proofs.steps.peer_parameters_after.Statement.{statement}
+use Rattle.feature.proofs.steps.peer_parameters_after.Tie as tie
 
 keeps-requires : tie.Need-keeps-requires
 keeps-requires c κs = search needs
@@ -13,8 +13,8 @@ returns c = search held-kept
 from-requires : tie.Need-from-requires
 from-requires c κs = search needs
 
-hold-requires : tie.Need-hold-requires
-hold-requires c κs = search needs
+store-requires : tie.Need-store-requires
+store-requires c κs = search needs
 
 returns-2 : tie.Need-returns-2
 returns-2 c = search held-brought
@@ -25,7 +25,7 @@ no-parameters-requires c κs = search needs
 returns-3 : tie.Need-returns-3
 returns-3 c = search held-none
 
-pub held-after-spec : {M : Type 1} → statement M
-held-after-spec =
+pub peer-parameters-after-spec : {M : Type 1} → statement M
+peer-parameters-after-spec =
     tie.close
-    (tie.spec keeps-requires returns from-requires hold-requires returns-2 no-parameters-requires returns-3)
+    (tie.spec keeps-requires returns from-requires store-requires returns-2 no-parameters-requires returns-3)

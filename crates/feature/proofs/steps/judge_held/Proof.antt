@@ -1,8 +1,8 @@
--- `feature::steps::settle_again` meets its contract. Assumes nothing.
-use Rattle.feature.specs.StateLaws.{settled-again}
+-- `feature::steps::judge_held` meets its contract. Assumes nothing.
+use Rattle.feature.specs.StateLaws.{judged-held}
 use borrow.Author.Needs.{needs}
-use Rattle.feature.proofs.steps.settle_again.Statement.{statement}
-use Rattle.feature.proofs.steps.settle_again.Tie as tie
+use Rattle.feature.proofs.steps.judge_held.Statement.{statement}
+use Rattle.feature.proofs.steps.judge_held.Tie as tie
 
 switches-of-requires : tie.Need-switches-of-requires
 switches-of-requires c κs = search needs
@@ -19,17 +19,17 @@ wide-requires-2 c κs = search needs
 first-requires-2 : tie.Need-first-requires-2
 first-requires-2 c κs = search needs
 
-settle-requires : tie.Need-settle-requires
-settle-requires c κs = search needs
+judge-requires : tie.Need-judge-requires
+judge-requires c κs = search needs
 
 outcome-of-requires : tie.Need-outcome-of-requires
 outcome-of-requires c κs = search needs
 
 returns : tie.Need-returns
-returns c = search settled-again
+returns c = search judged-held
 
-pub settle-again-spec : {M : Type 1} → statement M
-settle-again-spec =
+pub judge-held-spec : {M : Type 1} → statement M
+judge-held-spec =
     tie.close
     (tie.spec
     switches-of-requires
@@ -37,6 +37,6 @@ settle-again-spec =
     first-requires
     wide-requires-2
     first-requires-2
-    settle-requires
+    judge-requires
     outcome-of-requires
     returns)

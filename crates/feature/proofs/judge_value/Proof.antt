@@ -1,8 +1,8 @@
--- `feature::settle_value` meets its contract. Assumes nothing.
-use Rattle.feature.specs.OutcomeLaws.{settled-value}
+-- `feature::judge_value` meets its contract. Assumes nothing.
+use Rattle.feature.specs.OutcomeLaws.{judged-value}
 use borrow.Author.Needs.{needs}
-use Rattle.feature.proofs.settle_value.Statement.{statement}
-use Rattle.feature.proofs.settle_value.Tie as tie
+use Rattle.feature.proofs.judge_value.Statement.{statement}
+use Rattle.feature.proofs.judge_value.Tie as tie
 
 switches-of-requires : tie.Need-switches-of-requires
 switches-of-requires c κs = search needs
@@ -19,14 +19,14 @@ flags-in-requires c κs = search needs
 from-requires : tie.Need-from-requires
 from-requires c κs = search needs
 
-settle-requires : tie.Need-settle-requires
-settle-requires c κs = search needs
+judge-requires : tie.Need-judge-requires
+judge-requires c κs = search needs
 
 returns : tie.Need-returns
-returns c = search settled-value
+returns c = search judged-value
 
-pub settle-value-spec : {M : Type 1} → statement M
-settle-value-spec =
+pub judge-value-spec : {M : Type 1} → statement M
+judge-value-spec =
     tie.close
     (tie.spec
     switches-of-requires
@@ -34,5 +34,5 @@ settle-value-spec =
     first-requires
     flags-in-requires
     from-requires
-    settle-requires
+    judge-requires
     returns)

@@ -21,8 +21,8 @@ lowSelector p i = selectorOf p i below 2
 unfoldable pub noClash : List ℕ → List ℕ → ℕ → ℕ → Bool
 noClash p q i j = not (clash p i q j)
 
--- octet x at place i of a feature's parameters, as it is held
-unfoldable pub heldOctet : Feature → ℕ → ℕ → ℕ
-heldOctet Groups i x = x
-heldOctet Flow i x = x
-heldOctet Applications i x = plainOctet i x
+-- octet x at place i of a feature's parameters, as it is stored
+unfoldable pub storedOctet : Feature → ℕ → ℕ → ℕ
+storedOctet Groups i x = x
+storedOctet Flow i x = x
+storedOctet Applications i x = plainOctet i x

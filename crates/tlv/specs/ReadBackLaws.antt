@@ -5,9 +5,9 @@ use mathlib.Core.List.{List, _++_}
 use native.Mathlib.Omega.{arith}
 use lib.ListN.{length, length-append}
 use lib.Seq.{drop-at}
-use Rattle.tlv.specs.declared.Frame.the-variants.{Accepted}
+use Rattle.tlv.specs.declared.Reading.the-variants.{Accepted}
 use Rattle.tlv.specs.Layout.{frameHead, noContents, walked, readFrame}
-use Rattle.tlv.specs.Values.{Tlv, octetsAll, frameOf, Values, OneControl, valuesIn, noValues, notedValues, Parts, partsOctets, partsValues, LaidOut}
+use Rattle.tlv.specs.ValuesLaws.{Tlv, octetsAll, frameOf, Values, OneControl, valuesIn, noValues, notedValues, Parts, partsOctets, partsValues, LaidOut}
 use Rattle.tlv.specs.WrittenLaws.{Sized, Walks, walks-written, sized, frame-accepted, partsTlvs, parts-octets, parts-noted}
 
 -- behind any six octets the walk finds the values of the sub-TLVs that were written, and comes to the end

@@ -5,17 +5,17 @@ use mathlib.Core.Bool.{Bool, not, _||_}
 use mathlib.Core.List.{List, [], _∷_, _++_}
 use lib.ListN.{length}
 use Rattle.octets.specs.Words.{if_then_else_, _below_, _is_}
-use Rattle.octets.specs.Octets.{at}
+use Rattle.octets.specs.Octets.{at, headed}
 use Rattle.tlv.specs.declared.Found.{Found}
 use Rattle.tlv.specs.declared.Contents.{Contents}
-use Rattle.tlv.specs.Layout.{head, frameHead, valueOf}
+use Rattle.tlv.specs.Layout.{frameHead, valueOf}
 
 pub record Tlv : Type 0 where
   pub kind : ℕ
   pub value : List ℕ
 
 abbrev pub octetsOf : Tlv → List ℕ
-octetsOf t = head (t .kind) (length (t .value)) ++ t .value
+octetsOf t = headed (t .kind) (t .value)
 
 unfoldable pub octetsAll : List Tlv → List ℕ
 octetsAll [] = []
