@@ -18,7 +18,7 @@ use Rattle.parameters.specs.declared.Feature.the-variants.{Groups, Flow, Applic
 use Rattle.parameters.specs.Parameters.{valid, plain, stored, content}
 use Rattle.parameters.specs.FeatureLaws.{valid-length}
 use Rattle.parameters.specs.PlainLaws.{length-plain, plain-plain, valid-plain}
-use Rattle.parameters.specs.HoldingLaws.{content-stored}
+use Rattle.parameters.specs.StoringLaws.{content-stored}
 use Rattle.feature.specs.declared.Reason.{Reason}
 use Rattle.feature.specs.declared.Reason.the-variants.{Absent, Duplicate, Bad, Waiting, ControlTwice}
 use Rattle.feature.specs.declared.Setting.{Setting}

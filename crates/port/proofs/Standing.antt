@@ -19,7 +19,7 @@ use Rattle.parameters.specs.declared.Feature.the-variants.{Groups, Flow, Applic
 use Rattle.parameters.specs.Parameters.{valid, localValues, validLocal, plain, stored, content}
 use Rattle.parameters.specs.FeatureLaws.{valid-length}
 use Rattle.parameters.specs.PlainLaws.{length-plain, local-plain}
-use Rattle.parameters.specs.HoldingLaws.{content-stored}
+use Rattle.parameters.specs.StoringLaws.{content-stored}
 use Rattle.feature.specs.declared.Setting.{Setting}
 use Rattle.feature.specs.declared.Switches.{Switches}
 use Rattle.feature.specs.declared.State.{State}
