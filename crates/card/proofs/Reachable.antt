@@ -12,6 +12,7 @@ use Rattle.notices.specs.LogModel.{Sound, logSteps}
 use Rattle.notices.specs.LogModel as log
 use Rattle.notices.specs.LogLaws.{empty-sound, writes-sound, steps-sound}
 use Rattle.port.specs.declared.Event.{Event}
+use Rattle.port.specs.Replies.{eventReply}
 use Rattle.port.specs.PortEvents.{inOrder, refused, createdPort, blankPort, settingsValid, made}
 use Rattle.port.specs.PortEvents as events
 use Rattle.port.specs.Handling as handling
@@ -19,7 +20,7 @@ use Rattle.port.proofs.Standing.{Standing, handled-stands, flagged-stands, gone
 use Rattle.card.specs.declared.Card.{Card}
 use Rattle.card.specs.Card.{kept, created, handled, peerGone, flagged, changedSetting, taken}
 use Rattle.card.specs.Sound.{SoundCard}
-use Rattle.card.specs.Calls.{Call, frame, gone, flag, setting, write, take, after, afterAll, eventNumber}
+use Rattle.card.specs.Calls.{Call, frame, gone, flag, setting, write, take, after, afterAll}
 use Rattle.card.proofs.Refusals.{took-by}
 use Rattle.card.specs.Reachable.{Octets, Creation, cardOf, Reachable}
 
@@ -71,7 +72,7 @@ unfolding created events.created refusalNumber
 creation-sound x = by (settingsValid (x .parameters)) refl (x .done)
   where
     by : (b : Bool) → settingsValid (x .parameters) ≡ b →
-        eventNumber ((if b then made (createdPort (x .versions) (x .switches) (x .parameters)) else refused InvalidSetting blankPort) .answer) ≡ 0 →
+        eventReply ((if b then made (createdPort (x .versions) (x .switches) (x .parameters)) else refused InvalidSetting blankPort) .answer) .number ≡ 0 →
         SoundCard (kept emptyLog (if b then made (createdPort (x .versions) (x .switches) (x .parameters)) else refused InvalidSetting blankPort) .card)
     by true k e = kept-sound emptyLog (made (createdPort (x .versions) (x .switches) (x .parameters))) empty-sound
         (created-stands (x .versions) (x .switches) (x .parameters) (x .control) (x .features) k)

@@ -3,13 +3,11 @@ use Prim.Native.Nat.{ℕ}
 use mathlib.Core.Bool.{Bool}
 use mathlib.Core.List.{List, [], _∷_}
 use Rattle.octets.specs.Words.{if_then_else_, _is_}
-use Rattle.tlv.specs.Refusals.{refusalNumber}
+use Rattle.tlv.specs.Refusals.{Reply, done, refusal}
 use Rattle.feature.specs.declared.Switches.{Switches}
 use Rattle.port.specs.declared.Flag.{Flag}
-use Rattle.port.specs.declared.Answer.{Answer}
-use Rattle.port.specs.declared.Answer.the-variants as answer
-use Rattle.port.specs.declared.Written.{Written}
-use Rattle.port.specs.declared.Written.the-variants as wrote
+use Rattle.notices.specs.Notices.{noticeNumber}
+use Rattle.port.specs.Replies.{eventReply, writtenReply}
 use Rattle.card.specs.declared.Card.{Card}
 use Rattle.card.specs.declared.Took.{Took}
 use Rattle.card.specs.declared.Took.the-variants as took
@@ -55,28 +53,22 @@ lentAfter c (setting number w o) = o
 lentAfter c (write out) = output c out
 lentAfter c take = []
 
--- the answer as a number: that of the refusal, or 0
-abbrev pub eventNumber : Answer → ℕ
-eventNumber (answer.Done wish) = 0
-eventNumber (answer.Refused why) = refusalNumber why
+-- ---- what a call answers, in document 01's numbers
 
-abbrev pub writtenNumber : Written → ℕ
-writtenNumber (wrote.Octets n) = 0
-writtenNumber (wrote.Refused why) = refusalNumber why
+-- "Taking removes the oldest and gives its number and its feature, 0 for a port notice."
+abbrev pub tookReply : Took → Reply
+tookReply (took.Notice x) = done (noticeNumber (x .kind) ∷ x .feature ∷ [])
+tookReply (took.Refused why) = refusal why
 
-abbrev pub tookNumber : Took → ℕ
-tookNumber (took.Notice x) = 0
-tookNumber (took.Refused why) = refusalNumber why
-
-unfoldable pub answerOf : Card → Call → ℕ
-answerOf c (frame o) = eventNumber (handled c o .answer)
-answerOf c gone = eventNumber (peerGone c .answer)
-answerOf c (flag x on) = eventNumber (flagged x on c .answer)
-answerOf c (setting number w o) = eventNumber (changedSetting number w o c .answer)
-answerOf c (write out) = writtenNumber (written c out)
-answerOf c take = tookNumber (taken c .answer)
+unfoldable pub replyOf : Card → Call → Reply
+replyOf c (frame o) = eventReply (handled c o .answer)
+replyOf c gone = eventReply (peerGone c .answer)
+replyOf c (flag x on) = eventReply (flagged x on c .answer)
+replyOf c (setting number w o) = eventReply (changedSetting number w o c .answer)
+replyOf c (write out) = writtenReply (written c out)
+replyOf c take = tookReply (taken c .answer)
 
 -- the calls of a list that are not refused, each in the state that it meets
 unfoldable pub accepted : Card → List Call → List Call
 accepted c [] = []
-accepted c (x ∷ xs) = if answerOf c x is 0 then x ∷ accepted (after c x) xs else accepted (after c x) xs
+accepted c (x ∷ xs) = if replyOf c x .number is 0 then x ∷ accepted (after c x) xs else accepted (after c x) xs

@@ -7,9 +7,10 @@ use Rattle.parameters.specs.declared.Feature.{Feature}
 use Rattle.feature.specs.declared.Switches.{Switches}
 use Rattle.port.specs.declared.Versions.{Versions}
 use Rattle.port.specs.Parts.{maxOf}
+use Rattle.port.specs.Replies.{eventReply}
 use Rattle.card.specs.declared.Card.{Card}
 use Rattle.card.specs.Card.{created}
-use Rattle.card.specs.Calls.{Call, frame, gone, flag, setting, write, take, afterAll, eventNumber}
+use Rattle.card.specs.Calls.{Call, frame, gone, flag, setting, write, take, afterAll}
 
 -- the octets of the frames are below 256; of other calls nothing is asked
 abbrev pub Octets : List Call → Type 0
@@ -28,7 +29,7 @@ pub record Creation : Type 0 where
   pub parameters : Feature → List ℕ
   pub control : versions .control < 256
   pub features : (f : Feature) → maxOf versions f < 256
-  pub done : eventNumber (created versions switches parameters .answer) ≡ 0
+  pub done : eventReply (created versions switches parameters .answer) .number ≡ 0
 
 -- the card that it makes
 abbrev pub cardOf : Creation → Card

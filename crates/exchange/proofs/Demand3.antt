@@ -17,7 +17,7 @@ demand3 c h =
     let fit-s = fit (c .l .port) (h .l .sound) in
     let fit-t = fit (c .r .port) (h .r .sound) in
     record {
-      judges = λ rs p n.
+      settles = λ rs p n.
           let k = follows-all s t (rounds rs) c (begin s t) p (like-begun c h) in
           let z = after-five s t fit-s fit-t rs n in
           let i = run-idle s t (rounds rs) in (

@@ -1,9 +1,22 @@
--- The reasons of a feature's state, told apart by a number.
+-- The reasons of a feature's state, in document 01's words; and told apart by a number.
 use Prim.Native.Nat.{ℕ}
+use Prim.Native.String.{String}
 use Rattle.feature.specs.declared.Reason.{Reason}
 use Rattle.feature.specs.declared.Reason.the-variants.{NoPeerYet, NotAdvertised, Absent, Duplicate, Bad, Waiting, Disabled, Agreed, NotCompatible, ControlTwice}
 
--- Document 01 gives the reasons words and no numbers: these are ours.
+abbrev pub reasonWord : Reason → String
+reasonWord NoPeerYet = "no peer yet"
+reasonWord NotAdvertised = "not advertised"
+reasonWord Absent = "absent"
+reasonWord Duplicate = "duplicate"
+reasonWord Bad = "bad"
+reasonWord Waiting = "waiting"
+reasonWord Disabled = "disabled"
+reasonWord Agreed = "agreed"
+reasonWord NotCompatible = "not compatible"
+reasonWord ControlTwice = "control twice"
+
+-- Document 01 gives the reasons no numbers: these are ours, for the code that tells two reasons apart.
 abbrev pub reasonNumber : Reason → ℕ
 reasonNumber NoPeerYet = 0
 reasonNumber NotAdvertised = 1

@@ -208,7 +208,13 @@ fn keeps(x: State, course: Course) -> bool
 }
 
 // The parameters held of the peer after a frame: `held` says whether there is one.
-pub fn peer_parameters_after(f: Feature, x: State, course: Course, held: bool, value: &[u8]) -> Parameters
+pub fn peer_parameters_after(
+    f: Feature,
+    x: State,
+    course: Course,
+    held: bool,
+    value: &[u8],
+) -> Parameters
     ensures { λ r. ⌜ r ≡ peerParametersAfter course f (now (value .entry)) held x ⌝ }
 {
     let o = x.outcome;

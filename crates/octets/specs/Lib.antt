@@ -1,3 +1,4 @@
 pub mod Words
 pub mod Octets
+pub mod Texts
 pub mod Laws

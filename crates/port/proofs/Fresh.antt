@@ -45,9 +45,9 @@ module _ (sequence max : ℕ) (s : Setting) where
 
   made-sound : (f : Feature) (b : Bool) → max < 256 → sequence < 2 ^ 32 → SoundSetting f s → SoundState f (made b)
   made-sound f true h n k =
-      record { max = h; oper = le-refl max; sequence = n; setting = k; peer = record { none = λ e. refl; some = λ e. absurd (false≢true e) }; adopted = λ e. absurd (false≢true e) }
+      record { max = h; oper = le-refl max; sequence = n; setting = k; peer = record { none = λ e. refl; some = λ e. absurd (false≢true e) }; adopts = refl; withheld = λ e. refl }
   made-sound f false h n k =
-      record { max = h; oper = le-refl max; sequence = n; setting = k; peer = record { none = λ e. refl; some = λ e. absurd (false≢true e) }; adopted = λ e. absurd (false≢true e) }
+      record { max = h; oper = le-refl max; sequence = n; setting = k; peer = record { none = λ e. refl; some = λ e. absurd (false≢true e) }; adopts = refl; withheld = λ e. refl }
 
   fresh-max : freshAt sequence max s .max ≡ max
   unfolding freshAt
@@ -65,7 +65,7 @@ pub state-again : (max : ℕ) (s : Setting) → fresh (fresh max s .max) (fresh 
 state-again max s = λ i. fresh (fresh-max 1 max s i) (fresh-setting 1 max s i)
 
 stopped-sound : (f : Feature) (x : State) → SoundState f x → SoundState f (stopped x)
-stopped-sound f x h = record { max = h .max; oper = h .oper; sequence = h .sequence; setting = h .setting; peer = h .peer; adopted = h .adopted }
+stopped-sound f x h = record { max = h .max; oper = h .oper; sequence = h .sequence; setting = h .setting; peer = h .peer; adopts = h .adopts; withheld = h .withheld }
 
 -- ---- what a fresh state takes from a port: versions, settings and flags
 

@@ -3,7 +3,7 @@ use Prim.Native.Nat.{ℕ, _+_, _<_, _≤_, _^_, min}
 use native.Mathlib.Omega.{arith}
 use native.Mathlib.Nat.{min-le-left, le-refl, mod-lt}
 use mathlib.Core.Path.{_≡_, refl, sym, ap, _∙_}
-use mathlib.Core.Bool.{Bool, true, false, not, _&&_, _||_, false≢true}
+use mathlib.Core.Bool.{Bool, true, false, not, _&&_, _||_, Bool·beq, false≢true}
 use mathlib.Core.List.{List}
 use lib.ListN.{length, take, drop, length-take, List·getD-eq-default}
 use lib.Seq.{getD-take, getD-drop}
@@ -11,11 +11,12 @@ use lib.Dec.{lit<}
 use borrow.Author.Tests.{ltb-true, ltb-false}
 use Rattle.octets.specs.Words.{if_then_else_, _below_, _is_}
 use Rattle.octets.specs.Octets.{at, number4}
+use Rattle.octets.specs.Laws.{and-left}
 use Rattle.tlv.specs.declared.Contents.{Contents}
 use Rattle.tlv.specs.Layout.{valueOf}
 use Rattle.parameters.specs.declared.Feature.{Feature}
 use Rattle.parameters.specs.declared.Feature.the-variants.{Groups, Flow, Applications}
-use Rattle.parameters.specs.Parameters.{valid, plain, stored, content}
+use Rattle.parameters.specs.Parameters.{valid, compatible, plain, stored, content}
 use Rattle.parameters.specs.FeatureLaws.{valid-length}
 use Rattle.parameters.specs.PlainLaws.{length-plain, plain-plain, valid-plain}
 use Rattle.parameters.specs.StoringLaws.{content-stored}
@@ -31,8 +32,8 @@ use Rattle.port.specs.declared.Port.{Port}
 use Rattle.port.specs.Parts.{featureOf, withControl, some}
 use Rattle.port.specs.PortEvents.{withSeq, unsynced, sent, step5, completed}
 use Rattle.port.specs.Handling.{Message, message, twice, met, exchanged, once, steps1to4}
-use Rattle.port.specs.Sound.{SoundParameters, SoundSetting, SoundPeer, SoundState, SoundControl, SoundPort}
-use Rattle.feature.specs.RulesLaws.{judgedBy, judged-by}
+use Rattle.port.specs.Sound.{SoundParameters, SoundSetting, SoundPeer, adoptsBy, SoundState, SoundControl, SoundPort}
+use Rattle.feature.specs.RulesLaws.{judgedBy, judged-by, judged-oper, judged-peer}
 
 -- ---- outcomes
 
@@ -43,33 +44,57 @@ sound-stored f o v =
     let e : content (stored (plain f o)) ≡ plain f o = content-stored (plain f o) n in
     record { whole = ap stored (sym (ap (plain f) e ∙ plain-plain f o)); valid = ap (valid f) e ∙ valid-plain f o ∙ v }
 
-pub record SoundOutcome (f : Feature) (max : ℕ) (o : Outcome) : Type 0 where
+pub record SoundOutcome (f : Feature) (max : ℕ) (s : Setting) (o : Outcome) : Type 0 where
   pub oper : o .oper ≤ max
   pub peer : SoundPeer f (o .peer)
-  pub adopted : o .adopts ≡ true → o .peer .held ≡ true
+  pub adopts : o .adopts ≡ adoptsBy s (o .peer)
+
+-- rules 6 to 9 over both ends' enable and willing, and whether the parameters are compatible
+judgedBy-adopts : (e pe w pw c : Bool) (oper : ℕ) (p : Peer) → judgedBy (e && pe) (Bool·beq w pw) c w oper p .adopts ≡ (true && e && pe && w && not pw)
+unfolding judgedBy
+judgedBy-adopts false pe w pw c oper p = refl
+judgedBy-adopts true false w pw c oper p = refl
+judgedBy-adopts true true false true c oper p = refl
+judgedBy-adopts true true false false true oper p = refl
+judgedBy-adopts true true false false false oper p = refl
+judgedBy-adopts true true true false c oper p = refl
+judgedBy-adopts true true true true true oper p = refl
+judgedBy-adopts true true true true false oper p = refl
+
+-- no peer is held: none is adopted
+pub adopts-none : (s : Setting) (p : Peer) → p .held ≡ false → adoptsBy s p ≡ false
+adopts-none s p n = rw n refl
+
+adopts-held : (s : Setting) (p : Peer) → adoptsBy s p ≡ true → p .held ≡ true
+adopts-held s p e =
+    let a : Bool = p .held && s .enable in
+    and-left (p .held) (s .enable) (and-left a (p .enable) (and-left (a && p .enable) (s .willing) (and-left (a && p .enable && s .willing) (not (p .willing)) e)))
 
 module _ (f : Feature) (max : ℕ) (s : Setting) (h : SoundSetting f s) where
-  without-sound : (why : Reason) (oper : ℕ) (error : Bool) → oper ≤ max → SoundOutcome f max (withoutPeer why oper error)
+  without-sound : (why : Reason) (oper : ℕ) (error : Bool) → oper ≤ max → SoundOutcome f max s (withoutPeer why oper error)
   without-sound why oper error k =
-      record { oper = k; peer = record { none = λ e. refl; some = λ e. absurd (false≢true e) }; adopted = λ e. absurd (false≢true e) }
+      record { oper = k; peer = record { none = λ e. refl; some = λ e. absurd (false≢true e) }; adopts = refl }
 
   module _ (oper : ℕ) (k : oper ≤ max) (p : Peer) (held : p .held ≡ true) (good : SoundParameters f (p .parameters)) where
     held-sound : SoundPeer f p
     held-sound = record { none = λ e. absurd (false≢true (sym e ∙ held)); some = λ e. good }
 
-    judgedBy-sound : (a b c : Bool) → SoundOutcome f max (judgedBy a b c (s .willing) oper p)
-    unfolding judgedBy
-    judgedBy-sound false b c = record { oper = k; peer = held-sound; adopted = λ e. held }
-    judgedBy-sound true false c = record { oper = k; peer = held-sound; adopted = λ e. held }
-    judgedBy-sound true true true = record { oper = k; peer = held-sound; adopted = λ e. held }
-    judgedBy-sound true true false = record { oper = k; peer = held-sound; adopted = λ e. held }
-
-    pub judged-sound : SoundOutcome f max (judged f s oper p)
-    judged-sound = rw judged-by (judgedBy-sound _ _ _)
+    pub judged-sound : SoundOutcome f max s (judged f s oper p)
+    judged-sound =
+        let suits : Bool = compatible f (content (s .desired)) (content (p .parameters)) in
+        record {
+          oper = rw (judged-oper f s oper p) k;
+          peer = rw (judged-peer f s oper p) held-sound;
+          adopts =
+              ap (λ (o : Outcome). o .adopts) (judged-by f s oper p)
+              ∙ judgedBy-adopts (s .enable) (p .enable) (s .willing) (p .willing) suits oper p
+              ∙ sym (ap (λ (b : Bool). b && s .enable && p .enable && s .willing && not (p .willing)) held)
+              ∙ sym (ap (adoptsBy s) (judged-peer f s oper p));
+        }
 
   -- rules 1 to 5 over their tests
   ruled-sound : (oper low : ℕ) → oper ≤ max → low ≤ max → (v : List ℕ) (a b c d e : Bool) → valid f (parametersOf v) ≡ e →
-      SoundOutcome f max
+      SoundOutcome f max s
       (if a then withoutPeer Absent max false
       else if b then withoutPeer Duplicate oper true
       else if c then withoutPeer Bad oper true
@@ -83,7 +108,7 @@ module _ (f : Feature) (max : ℕ) (s : Setting) (h : SoundSetting f s) where
   ruled-sound oper low k l v false false false true false g = without-sound Bad low true l
   ruled-sound oper low k l v false false false true true g = judged-sound low l (heldPeer f v) refl (sound-stored f (parametersOf v) g)
 
-  pub outcome-sound : (oper : ℕ) → oper ≤ max → (r : Received) → SoundOutcome f max (outcome f max s oper r)
+  pub outcome-sound : (oper : ℕ) → oper ≤ max → (r : Received) → SoundOutcome f max s (outcome f max s oper r)
   unfolding outcome
   outcome-sound oper k r =
       ruled-sound oper (min max (maxOf (r .value))) k (min-le-left max (maxOf (r .value))) (r .value) (r .count is 0) (1 below r .count)
@@ -96,14 +121,30 @@ pub next-small : (n : ℕ) → next n < 2 ^ 32
 next-small n = mod-lt (n + 1) (lit< tt)
 
 module _ (f : Feature) where
-  with-sound : (x : State) (o : Outcome) → SoundState f x → SoundOutcome f (x .max) o → SoundState f (withOutcome x o)
-  with-sound x o h k =
-      record { max = h .max; oper = k .oper; sequence = h .sequence; setting = h .setting; peer = k .peer; adopted = k .adopted }
+  with-sound : (x : State) (o : Outcome) → SoundState f x → SoundOutcome f (x .max) (x .setting) o → x .setting .advertise ≡ true → SoundState f (withOutcome x o)
+  with-sound x o h k a =
+      record {
+        max = h .max;
+        oper = k .oper;
+        sequence = h .sequence;
+        setting = h .setting;
+        peer = k .peer;
+        adopts = k .adopts;
+        withheld = λ e. absurd (false≢true (sym e ∙ a));
+      }
+
+  -- an advertised feature gets another outcome
+  advertised-sound : (x : State) (o : Outcome) → SoundState f x → SoundOutcome f (x .max) (x .setting) o → SoundState f (if x .setting .advertise then withOutcome x o else x)
+  advertised-sound x o h k = by (x .setting .advertise) refl
+    where
+      by : (b : Bool) → x .setting .advertise ≡ b → SoundState f (if b then withOutcome x o else x)
+      by true a = with-sound x o h k a
+      by false a = h
 
   acknowledged-sound : (rcvd seq : ℕ) (x : State) → SoundState f x → SoundState f (acknowledged rcvd seq x)
   unfolding acknowledged
   acknowledged-sound rcvd seq x h =
-      record { max = h .max; oper = h .oper; sequence = h .sequence; setting = h .setting; peer = h .peer; adopted = h .adopted }
+      record { max = h .max; oper = h .oper; sequence = h .sequence; setting = h .setting; peer = h .peer; adopts = h .adopts; withheld = h .withheld }
 
   -- where a test decides between two states
   pub either-sound : (b : Bool) (x y : State) → SoundState f x → SoundState f y → SoundState f (if b then x else y)
@@ -112,23 +153,17 @@ module _ (f : Feature) where
 
   received-sound : (r : Received) (x : State) → SoundState f x → SoundState f (received f r x)
   unfolding received
-  received-sound r x h =
-      either-sound (x .setting .advertise) _ x
-      (with-sound x (outcome f (x .max) (x .setting) (x .outcome .oper) r) h (outcome-sound f (x .max) (x .setting) (h .setting) (x .outcome .oper) (h .oper) r))
-      h
+  received-sound r x h = advertised-sound x _ h (outcome-sound f (x .max) (x .setting) (h .setting) (x .outcome .oper) (h .oper) r)
 
   twice-sound : (x : State) → SoundState f x → SoundState f (controlTwice x)
   unfolding controlTwice
-  twice-sound x h =
-      either-sound (x .setting .advertise) _ x
-      (with-sound x _ h (without-sound f (x .max) (x .setting) (h .setting) ControlTwice (x .outcome .oper) true (h .oper)))
-      h
+  twice-sound x h = advertised-sound x _ h (without-sound f (x .max) (x .setting) (h .setting) ControlTwice (x .outcome .oper) true (h .oper))
 
   marked-sound : (seq : ℕ) (x y : State) → SoundState f y → SoundState f (marked f seq x y)
   unfolding marked
   marked-sound seq x y h =
       either-sound (y .setting .advertise && changed f x y) _ y
-      (record { max = h .max; oper = h .oper; sequence = next-small seq; setting = h .setting; peer = h .peer; adopted = h .adopted })
+      (record { max = h .max; oper = h .oper; sequence = next-small seq; setting = h .setting; peer = h .peer; adopts = h .adopts; withheld = h .withheld })
       h
 
 -- OperCfg of a sound state is sound
@@ -136,7 +171,7 @@ pub configuration-sound : (f : Feature) (x : State) → SoundState f x → Sound
 configuration-sound f x h = by (x .outcome .adopts) refl
   where
     by : (b : Bool) → x .outcome .adopts ≡ b → SoundParameters f (if b then x .outcome .peer .parameters else x .setting .desired)
-    by true e = h .peer .some (h .adopted e)
+    by true e = h .peer .some (adopts-held (x .setting) (x .outcome .peer) (sym (h .adopts) ∙ e))
     by false e = h .setting .desired
 
 -- ---- the port

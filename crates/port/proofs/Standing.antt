@@ -22,9 +22,10 @@ use Rattle.parameters.specs.PlainLaws.{length-plain, local-plain}
 use Rattle.parameters.specs.StoringLaws.{content-stored}
 use Rattle.feature.specs.declared.Setting.{Setting}
 use Rattle.feature.specs.declared.Switches.{Switches}
+use Rattle.feature.specs.declared.Outcome.{Outcome}
 use Rattle.feature.specs.declared.State.{State}
 use Rattle.feature.specs.Outcome.{lower, judged}
-use Rattle.feature.specs.State.{next, fresh, stopped, settingOf, sameSetting, judgedAgain, reset}
+use Rattle.feature.specs.State.{next, freshAt, fresh, stopped, settingOf, sameSetting, judgedAgain, reset}
 use Rattle.port.specs.declared.Flag.{Flag}
 use Rattle.port.specs.declared.Flag.the-variants.{Admin, Receive, Transmit, Several}
 use Rattle.port.specs.declared.Port.{Port}
@@ -36,7 +37,7 @@ use Rattle.port.specs.PortEvents.{sent, freshControl, freshParts, freshP
 use Rattle.port.specs.Handling.{Message, message, twice, met, exchanged, once, steps1to4, frameEvent, accepted, given, handled}
 use Rattle.port.specs.Sound.{SoundSetting, SoundState, SoundPort}
 use Rattle.port.proofs.Tests.{beq-not, each-true}
-use Rattle.port.proofs.Soundness.{Octets, sound-stored, SoundOutcome, judged-sound, next-small, either-sound, port-sound, sent-sound, completed-sound, steps-sound}
+use Rattle.port.proofs.Soundness.{Octets, sound-stored, adopts-none, judged-sound, next-small, port-sound, sent-sound, completed-sound, steps-sound}
 use Rattle.port.proofs.Fresh.{state-again, fresh-sound, sent-alike, runs-alike, fresh-kept, fresh-same, fresh-again}
 
 pub record Standing (p : Port) : Type 0 where
@@ -162,31 +163,64 @@ setting-sound f w o e =
     }
 
 module _ (f : Feature) (s : Setting) (k : SoundSetting f s) (x : State) (h : SoundState f x) where
-  with-setting-sound : SoundState f (withSetting x s)
-  with-setting-sound = record { max = h .max; oper = h .oper; sequence = h .sequence; setting = k; peer = h .peer; adopted = h .adopted }
+  -- no peer is held, as on a stopped port
+  with-setting-sound : x .outcome .peer .held ≡ false → SoundState f (withSetting x s)
+  with-setting-sound n =
+      record {
+        max = h .max;
+        oper = h .oper;
+        sequence = h .sequence;
+        setting = k;
+        peer = h .peer;
+        adopts = h .adopts ∙ adopts-none (x .setting) (x .outcome .peer) n ∙ sym (adopts-none s (x .outcome .peer) n);
+        withheld = λ e. n;
+      }
 
-  judgedAgain-sound : SoundOutcome f (x .max) (judgedAgain f s (x .outcome))
+  -- Advertise stays
+  judgedAgain-sound : (seq : ℕ) → x .setting .advertise ≡ s .advertise
+      → SoundState f (record { max = x .max; setting = s; outcome = judgedAgain f s (x .outcome); syncd = x .syncd; sequence = x .sequence })
   unfolding judgedAgain
-  judgedAgain-sound = by (s .advertise) (x .outcome .peer .held) refl
+  judgedAgain-sound seq same = by (s .advertise) (x .outcome .peer .held) refl refl
     where
-      by : (a b : Bool) → x .outcome .peer .held ≡ b
-          → SoundOutcome f (x .max)
-          (if not a then
-          record { reason = x .outcome .reason; oper = x .outcome .oper; error = x .outcome .error; mode = s .enable; peer = x .outcome .peer; adopts = false }
-          else if b then judged f s (x .outcome .oper) (x .outcome .peer)
-          else
-          record { reason = x .outcome .reason; oper = x .outcome .oper; error = x .outcome .error; mode = x .outcome .mode; peer = x .outcome .peer; adopts = false })
-      by false b e = record { oper = h .oper; peer = h .peer; adopted = λ e. absurd (false≢true e) }
-      by true true e = judged-sound f (x .max) s k (x .outcome .oper) (h .oper) (x .outcome .peer) e (h .peer .some e)
-      by true false e = record { oper = h .oper; peer = h .peer; adopted = λ e. absurd (false≢true e) }
+      left : Bool → Outcome
+      left mode = record { reason = x .outcome .reason; oper = x .outcome .oper; error = x .outcome .error; mode = mode; peer = x .outcome .peer; adopts = false }
+
+      by : (a b : Bool) → s .advertise ≡ a → x .outcome .peer .held ≡ b
+          → SoundState f
+          (record {
+            max = x .max;
+            setting = s;
+            outcome = if not a then left (s .enable) else if b then judged f s (x .outcome .oper) (x .outcome .peer) else left (x .outcome .mode);
+            syncd = x .syncd;
+            sequence = x .sequence;
+          })
+      by false b a e =
+          let n : x .outcome .peer .held ≡ false = h .withheld (same ∙ a) in
+          record { max = h .max; oper = h .oper; sequence = h .sequence; setting = k; peer = h .peer; adopts = sym (adopts-none s (x .outcome .peer) n); withheld = λ e. n }
+      by true true a e =
+          let o = judged-sound f (x .max) s k (x .outcome .oper) (h .oper) (x .outcome .peer) e (h .peer .some e) in
+          record {
+            max = h .max;
+            oper = o .oper;
+            sequence = h .sequence;
+            setting = k;
+            peer = o .peer;
+            adopts = o .adopts;
+            withheld = λ e. absurd (false≢true (sym e ∙ a));
+          }
+      by true false a e =
+          record { max = h .max; oper = h .oper; sequence = h .sequence; setting = k; peer = h .peer; adopts = sym (adopts-none s (x .outcome .peer) e); withheld = λ _. e }
 
   reset-sound : (seq : ℕ) → SoundState f (reset f seq s x)
   unfolding reset
-  reset-sound seq =
-      let o = judgedAgain-sound in
-      either-sound f (Bool·beq (x .setting .advertise) (s .advertise)) _ _
-      (record { max = h .max; oper = o .oper; sequence = h .sequence; setting = k; peer = o .peer; adopted = o .adopted })
-      (fresh-sound (next seq) (x .max) s f (h .max) (next-small seq) k)
+  reset-sound seq = by (Bool·beq (x .setting .advertise) (s .advertise)) refl
+    where
+      by : (b : Bool) → Bool·beq (x .setting .advertise) (s .advertise) ≡ b
+          → SoundState f
+          (if b then record { max = x .max; setting = s; outcome = judgedAgain f s (x .outcome); syncd = x .syncd; sequence = x .sequence }
+          else freshAt (next seq) (x .max) s)
+      by true e = judgedAgain-sound seq (beq-not (x .setting .advertise) (s .advertise) (ap not e))
+      by false e = fresh-sound (next seq) (x .max) s f (h .max) (next-small seq) k
 
 feature-kept : (p : Port) (f : Feature) (x : State) → SoundPort p → SoundState f x → SoundPort (withFeature p f x)
 feature-kept p Groups x h k = port-sound (withFeature p Groups x) (h .control) k (h .features Flow) (h .features Applications)
@@ -199,6 +233,20 @@ feature-runs p Flow x = refl
 feature-runs p Applications x = refl
 
 module _ (p : Port) (h : Standing p) where
+  -- a stopped port holds no peer
+  none-held : (f : Feature) → running p ≡ false → featureOf p f .outcome .peer .held ≡ false
+  unfolding freshAt
+  none-held f r = ap (λ (q : Port). featureOf q f .outcome .peer .held) (sym (h .stopped r) ∙ fresh-still p _ refl r) ∙ by f
+    where
+      without : (x : State) (b : Bool) → x .setting .advertise ≡ b → fresh (x .max) (x .setting) .outcome .peer .held ≡ false
+      without x true a = rw a refl
+      without x false a = rw a refl
+
+      by : (f : Feature) → featureOf (still p) f .outcome .peer .held ≡ false
+      by Groups = without (p .groups) _ refl
+      by Flow = without (p .flow) _ refl
+      by Applications = without (p .applications) _ refl
+
   set-stands : (f : Feature) (s : Setting) → SoundSetting f s → Standing (settingChanged f s p)
   unfolding settingChanged
   set-stands f s k = by (running p) refl
@@ -213,7 +261,8 @@ module _ (p : Port) (h : Standing p) where
           (completed-runs p q ∙ feature-runs p f x ∙ r)
       by false r =
           let x : State = withSetting (featureOf p f) s in
-          fresh-stands (withFeature p f x) (feature-kept p f x (h .sound) (with-setting-sound f s k (featureOf p f) (h .sound .features f)))
+          fresh-stands (withFeature p f x)
+          (feature-kept p f x (h .sound) (with-setting-sound f s k (featureOf p f) (h .sound .features f) (none-held f r)))
 
   changed-stands : (f : Feature) (w : Switches) (o : List ℕ) → Standing (changedFeature f w o p .port)
   unfolding changedFeature setTo

@@ -64,6 +64,11 @@ sent-is p eg ew ea ek = rw (ek, eg, ew, ea) (sym (sent-counted p (p .control) (f
 
 -- ---- settled
 
+none : (x y z : Bool) → not (x || y || z) ≡ (not x && not y && not z)
+none true y z = refl
+none false true z = refl
+none false false z = refl
+
 module _ (p : Port) where
   pub settled-unseen : not (p .control .seen) ≡ true → false ≡ settled p
   unfolding settled
@@ -78,12 +83,8 @@ module _ (p : Port) where
         → not (g || w || a) ≡ settled p
     unfolding settled
     settled-by e eg ew ea =
-        simp (not-false (p .control .seen) s, eq-eqb (p .control .rcvd) (p .control .seq) e, ← eg, ← ew, ← ea) (none _ _ _)
-      where
-        none : (x y z : Bool) → not (x || y || z) ≡ (not x && not y && not z)
-        none true y z = refl
-        none false true z = refl
-        none false false z = refl
+        rw (eg, ew, ea, not-false (p .control .seen) s, eq-eqb (p .control .rcvd) (p .control .seq) e)
+        (none (unsynced (p .groups)) (unsynced (p .flow)) (unsynced (p .applications)))
 
 -- ---- fresh states
 

@@ -37,13 +37,15 @@ use Rattle.port.specs.declared.Port.{Port}
 use Rattle.port.specs.declared.Raised.{Raised}
 use Rattle.port.specs.declared.Raised.the-variants as raised
 use Rattle.port.specs.declared.Notices.{Notices}
+use Rattle.port.specs.declared.Event.{Event}
+use Rattle.port.specs.declared.Answer.the-variants.{Done}
 use Rattle.notices.specs.declared.Kind.the-variants.{DuplicateControl}
 use Rattle.port.specs.Parts.{featureOf, three, withControl, withFeatures, some, running}
 use Rattle.port.specs.Writing.{controlValue, asks}
 use Rattle.port.specs.EventLaws.{counted, sent-counted}
 use Rattle.port.specs.PortEvents.{unsynced, completed, becomes, raises, refused}
 use Rattle.port.specs.WritingLaws.{asks-parts}
-use Rattle.port.specs.Handling.{Message, hasOf, message, seenTwice, twice, met, numbered, exchanged, once, steps1to4, markNotice, given, handled}
+use Rattle.port.specs.Handling.{Message, hasOf, message, seenTwice, twice, met, numbered, exchanged, once, steps1to4, markNotice, frameEvent, accepted, given, handled}
 
 -- ---- which frames are taken
 
@@ -305,3 +307,26 @@ module _ (o : List ℕ) (c : Contents) (p : Port) where
       let sw : w ≡ stateBy o c p h Flow = part-made Flow way tw ey ew in
       let sa : a ≡ stateBy o c p h Applications = part-made Applications way ta ez ea in
       (λ i. withFeatures (withControl p (ck i)) (three (sg i) (sw i) (sa i))) ∙ sym done
+
+-- ---- the whole of it
+
+module _ (p : Port) (o : List ℕ) {r : Reading} (er : Admits p o r) where
+  admitted-event : handled p o ≡ given o r p
+  admitted-event = handled-admitted p o ∙ ap (λ (r : Reading). given o r p) (sym (er .answers))
+
+  pub handle-refused : {why : Refusal} {e : Event} → r ≡ Refused why → e ≡ refused why p → e ≡ handled p o
+  unfolding given
+  handle-refused e ee = rw (admitted-event, e) ee
+
+  pub handle-accepted : {k : Contents} {d : Change} {q : Port} → r ≡ Accepted k → d ≡ changeOf o k p → q ≡ completed p (steps1to4 o k p)
+      → record { answer = Done (d .wish); port = q; notices = d .notices } ≡ handled p o
+  unfolding given accepted frameEvent changeOf
+  handle-accepted e ed eq = rw (admitted-event, e, ed, eq) refl
+
+-- what the calls on the way need of a frame that is accepted
+module _ {p : Port} {o : List ℕ} {r : Reading} {c : Contents} (a : Admits p o r) (e : r ≡ Accepted c) where
+  pub accepted-inside : Inside o c
+  accepted-inside = a .inside c e
+
+  pub accepted-runs : running p ≡ true
+  accepted-runs = a .runs c e

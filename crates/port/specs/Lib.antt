@@ -2,6 +2,7 @@ pub mod Parts
 pub mod Writing
 pub mod WritingLaws
 pub mod PortEvents
+pub mod Replies
 pub mod Handling
 pub mod Settled
 pub mod Sound

@@ -2,7 +2,7 @@
 -- number has no bound, so theorems over ports need it.)
 use Prim.Native.Nat.{_<_, _≤_, _^_}
 use mathlib.Core.Path.{_≡_}
-use mathlib.Core.Bool.{true, false}
+use mathlib.Core.Bool.{Bool, true, false, not, _&&_}
 use Rattle.parameters.specs.declared.Feature.{Feature}
 use Rattle.parameters.specs.declared.Parameters.{Parameters}
 use Rattle.parameters.specs.Parameters as parameters
@@ -27,6 +27,12 @@ pub record SoundPeer (f : Feature) (p : Peer) : Type 0 where
   pub none : p .held ≡ false → p ≡ noPeer
   pub some : p .held ≡ true → SoundParameters f (p .parameters)
 
+-- Rule 7 applies, to a peer that is held: "Willing differs: the unwilling end's configuration". So an end adopts its peer's exactly if it is
+-- the willing one.
+abbrev pub adoptsBy : Setting → Peer → Bool
+adoptsBy s p = p .held && s .enable && p .enable && s .willing && not (p .willing)
+
+-- of a feature that is not advertised no peer is held
 pub record SoundState (f : Feature) (x : State) : Type 0 where
   pub max : x .max < 256
   pub oper : x .outcome .oper ≤ x .max
@@ -34,7 +40,8 @@ pub record SoundState (f : Feature) (x : State) : Type 0 where
   pub setting : SoundSetting f (x .setting)
   pub peer : SoundPeer f (x .outcome .peer)
   -- so OperCfg is sound too (proofs/Soundness: `configuration-sound`)
-  pub adopted : x .outcome .adopts ≡ true → x .outcome .peer .held ≡ true
+  pub adopts : x .outcome .adopts ≡ adoptsBy (x .setting) (x .outcome .peer)
+  pub withheld : x .setting .advertise ≡ false → x .outcome .peer .held ≡ false
 
 pub record SoundControl (c : Control) : Type 0 where
   pub max : c .max < 256

@@ -9,9 +9,11 @@ ghost use Rattle.tlv.specs.Promises.{Inside};
 ghost use Rattle.feature.specs.TurnLaws.{changedBy, peerParametersAfter};
 ghost use Rattle.port.specs.Parts.{running};
 ghost use Rattle.port.specs.PortEvents.{becomes, completed};
-ghost use Rattle.port.specs.Handling.{steps1to4};
+ghost use Rattle.port.specs.Handling.{handled, steps1to4};
 ghost use Rattle.port.specs.HandlingLaws.{Admits, afterIn, changeOf, duplicateNotice, heardOf, waitsBy};
+use crate::Answer;
 use crate::Control;
+use crate::Event;
 use crate::Notices;
 use crate::Port;
 use crate::Raised;
@@ -27,18 +29,18 @@ use tlv::Reading;
 use tlv::Refusal;
 
 // What a frame changes in a port, but for the parameters held of the peer.
-pub struct Change {
-    pub course: Course,
-    pub wish: bool,
-    pub control: Control,
-    pub groups: Turn,
-    pub flow: Turn,
-    pub applications: Turn,
-    pub notices: Notices,
+struct Change {
+    course: Course,
+    wish: bool,
+    control: Control,
+    groups: Turn,
+    flow: Turn,
+    applications: Turn,
+    notices: Notices,
 }
 
 // Reads a frame that arrived, if the port takes it.
-pub fn admit(p: Port, s: &[u8]) -> Reading
+fn admit(p: Port, s: &[u8]) -> Reading
     ensures { λ r. ⌜ Admits p (now (s .entry)) r ⌝ }
 {
     if !crate::writing::running(p) {
@@ -158,7 +160,7 @@ fn notice(x: State, t: Turn) -> Raised
 }
 
 // Decides what a frame that is accepted changes: `admit` says that the port runs and that the parts lie inside.
-pub fn decide(p: Port, s: &[u8], c: Contents) -> Change
+fn decide(p: Port, s: &[u8], c: Contents) -> Change
     requires { ⌜ Inside (now s) c × (running p ≡ true) ⌝ }
     ensures { λ r. ⌜ r ≡ changeOf (now (s .entry)) c p ⌝ }
 {
@@ -200,7 +202,14 @@ pub fn decide(p: Port, s: &[u8], c: Contents) -> Change
 }
 
 // The parameters that are held of the peer after a frame.
-fn peer_parameters(f: Feature, x: State, course: Course, t: Turn, s: &[u8], found: Found) -> Parameters
+fn peer_parameters(
+    f: Feature,
+    x: State,
+    course: Course,
+    t: Turn,
+    s: &[u8],
+    found: Found,
+) -> Parameters
     requires { ⌜ found .start + found .length ≤ length (now s) ⌝ }
     ensures { λ r. ⌜ r ≡ peerParametersAfter course f (valueOf (now (s .entry)) found) (t .decision .held) x ⌝ }
 {
@@ -209,7 +218,7 @@ fn peer_parameters(f: Feature, x: State, course: Course, t: Turn, s: &[u8], foun
 }
 
 // The port after a frame that is accepted, by what `decide` says that it changes.
-pub fn apply(p: Port, k: Change, s: &[u8], c: Contents) -> Port
+fn apply(p: Port, k: Change, s: &[u8], c: Contents) -> Port
     requires { ⌜ Inside (now s) c × (k ≡ changeOf (now s) c p) ⌝ }
     ensures { λ r. ⌜ r ≡ completed p (steps1to4 (now (s .entry)) c p) ⌝ }
 {
@@ -231,4 +240,26 @@ pub fn apply(p: Port, k: Change, s: &[u8], c: Contents) -> Port
     next.flow = feature::steps::renew(p.flow, k.flow, y);
     next.applications = feature::steps::renew(p.applications, k.applications, z);
     next
+}
+
+// Handles a frame that arrived (01, Handling a frame). A refused frame changes nothing.
+pub fn handle(p: Port, s: &[u8]) -> Event
+    ensures { λ r. ⌜ r ≡ handled p (now (s .entry)) ⌝ }
+{
+    let read = admit(p, s);
+    match read {
+        Reading::Refused(why) => {
+            return crate::events::refuse(why, p);
+        }
+        Reading::Accepted(contents) => {
+            let change = decide(p, s, contents);
+            let port = apply(p, change, s, contents);
+            let notices = change.notices;
+            return Event {
+                answer: Answer::Done(change.wish),
+                port: port,
+                notices: notices,
+            };
+        }
+    }
 }

@@ -1,5 +1,6 @@
 pub mod Refusals
 pub mod Layout
+pub mod Replies
 pub mod Promises
 pub mod Laws
 pub mod ValuesLaws

@@ -1,5 +1,6 @@
 -- 01, Refusal numbers: the table. The order of its cases is the order of the numbers.
 use Prim.Native.Nat.{ℕ}
+use mathlib.Core.List.{List, []}
 use Rattle.tlv.specs.declared.Refusal.{Refusal}
 use Rattle.tlv.specs.declared.Refusal.the-variants.{NotRunning, SeveralNeighbours, NotDcbx, WrongLength, PastEnd, NoControl, ControlLength, ControlVersion, InvalidSetting, ShortOutput, UnknownFeature, NoNotice}
 
@@ -16,3 +17,15 @@ refusalNumber InvalidSetting = 9
 refusalNumber ShortOutput = 10
 refusalNumber UnknownFeature = 11
 refusalNumber NoNotice = 12
+
+-- An answer in document 01's numbers: 0 and the values that stand beside it, or the number of a refusal: "A refusal returns its number
+-- alone".
+pub record Reply : Type 0 where
+  pub number : ℕ
+  pub values : List ℕ
+
+abbrev pub done : List ℕ → Reply
+done values = record { number = 0; values = values }
+
+abbrev pub refusal : Refusal → Reply
+refusal why = record { number = refusalNumber why; values = [] }
