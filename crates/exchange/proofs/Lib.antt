@@ -11,6 +11,7 @@ pub mod Pairs
 pub mod Settling
 pub mod Idle
 pub mod Losses
+pub mod Acknowledged
 pub mod Fixed
 -- ports, frames and cards
 pub mod Steps
