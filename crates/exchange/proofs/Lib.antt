@@ -23,7 +23,7 @@ pub mod Started
 pub mod Claims
 -- the theorems
 pub mod Demand3
-pub mod Creation
+pub mod Starting
 pub mod NotEmpty
 pub mod Tight
 pub mod Steady

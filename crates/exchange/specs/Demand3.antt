@@ -1,12 +1,11 @@
 -- Demand 3: two running ends, just started. Each claim is one about a whole list of rounds.
-use Prim.Native.Nat.{ℕ, _≤_}
+use Prim.Native.Nat.{_≤_}
 use mathlib.Core.Path.{_≡_}
-use mathlib.Core.Bool.{Bool, true, false}
+use mathlib.Core.Bool.{true, false}
 use mathlib.Core.List.{List}
 use mathlib.Core.Option.{none}
 use lib.ListN.{length}
 use Rattle.parameters.specs.declared.Feature.{Feature}
-use Rattle.feature.specs.declared.Peer.{Peer}
 use Rattle.feature.specs.Outcome.{lower}
 use Rattle.feature.specs.Outcome as rules
 use Rattle.port.specs.declared.Port.{Port}
@@ -15,7 +14,7 @@ use Rattle.port.specs.PortEvents.{freshPort}
 use Rattle.port.specs.Settled.{settled}
 use Rattle.port.specs.Sound.{SoundPort}
 use Rattle.card.specs.declared.Card.{Card}
-use Rattle.exchange.specs.Rounds.{Ends, Round, Lossy, Side, sideOf, rounds, lossyRounds, execAll, Proper, expected}
+use Rattle.exchange.specs.Rounds.{Ends, Round, Lossy, sideOf, rounds, lossyRounds, execAll, Proper, expected}
 
 -- "Just started means running, several-neighbours flag off, and the fresh state with its send rule done, whatever the log holds."
 pub record JustStarted (c : Card) : Type 0 where

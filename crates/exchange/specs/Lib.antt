@@ -2,4 +2,5 @@ pub mod Rounds
 pub mod Round
 pub mod RoundLaws
 pub mod Demand3
+pub mod Starting
 pub mod Worked
