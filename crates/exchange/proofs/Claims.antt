@@ -3,9 +3,11 @@ use Prim.Native.Nat.{ℕ}
 use native.Mathlib.Nat.{min-le-right}
 use native.Mathlib.Omega.{arith}
 use mathlib.Core.Path.{_≡_, refl, sym, ap, _∙_, subst}
-use mathlib.Core.Bool.{Bool, true, false}
+use mathlib.Core.Bool.{Bool, true, false, not, _&&_}
 use mathlib.Core.List.{List, [], _∷_}
-use Rattle.octets.specs.Words.{if_then_else_}
+use borrow.Author.Tests.{eqb-true}
+use Rattle.octets.specs.Words.{if_then_else_, _is_}
+use Rattle.octets.specs.Laws.{and-left, and-right}
 use Rattle.parameters.specs.declared.Feature.{Feature}
 use Rattle.parameters.specs.Parameters.{content}
 use Rattle.feature.specs.declared.Outcome.{Outcome}
@@ -13,13 +15,15 @@ use Rattle.feature.specs.Outcome.{lower, outcome}
 use Rattle.feature.specs.Outcome as rules
 use Rattle.feature.specs.State.{flags, fresh}
 use Rattle.port.specs.declared.Port.{Port}
-use Rattle.port.specs.Parts.{featureOf}
+use Rattle.port.specs.Parts.{featureOf, each}
+use Rattle.port.specs.PortEvents.{unsynced}
+use Rattle.port.specs.Settled.{settled}
 use Rattle.port.specs.Sound.{SoundPort}
 use Rattle.exchange.specs.Rounds.{Side, sideOf, receivedAlone, ruled, alone, expected}
 use Rattle.exchange.specs.Demand3.{Agreed, Truthful}
 use Rattle.exchange.proofs.Core.{Settings, advertised, Machine, Core}
 use Rattle.exchange.proofs.View.{settings, view}
-use Rattle.exchange.proofs.Stages.{Fit, Full, After5}
+use Rattle.exchange.proofs.Stages.{Fit, Full, Concluded}
 use Rattle.exchange.proofs.Losses.{Own, Honest}
 use Rattle.exchange.proofs.Idle.{Idle}
 use Rattle.exchange.proofs.Laws.{lower-of-two}
@@ -55,16 +59,29 @@ module _ (own peer p : Port) (q : Core) (e : view p ≡ q) where
   abbrev p-outcome : Feature → Type 0
   p-outcome f = featureOf p f .outcome ≡ expected f (sideOf own f) (sideOf peer f)
 
-  pub agreed : settings p ≡ settings own → (k : ℕ) (took taken : Bool) → After5 (settings own) (settings peer) q k took taken → Idle (settings own) q → Agreed own peer p
-  agreed s k took taken h i =
+  pub agreed : settings p ≡ settings own → Concluded (settings own) (settings peer) q → Idle (settings own) q → Agreed own peer p
+  agreed s h i =
       let o : (f : Feature) → p-outcome f = λ f. ap (λ (x : Core). x .feat f .outcome) e ∙ expected-as (settings own) (settings peer) q (h .full) i f _ refl in
       record {
-        acknowledged = ap (λ (x : Core). x .rcvd) e ∙ h .done .rcvd ∙ sym (ap (λ (x : Core). x .seq) e);
+        seen = ap (λ (x : Core). x .seen) e ∙ h .seen;
+        acknowledged = ap (λ (x : Core). x .rcvd) e ∙ h .rcvd ∙ sym (ap (λ (x : Core). x .seq) e);
+        synced = λ f a. ap (λ (x : Core). x .feat f .syncd) e ∙ h .synced f a;
         version = ap (λ (x : Core). x .oper) e ∙ h .low;
         versions = λ f a b. ap (λ (x : Outcome). x .oper) (o f) ∙ expected-version f (sideOf own f) (sideOf peer f) a b;
         outcome = o;
         configuration = λ f i. rules.configuration (s i .of f .setting) (o f i);
       }
+
+  -- a settled port has seen a peer, and its SeqNo is acknowledged
+  pub settled-agreed : settings p ≡ settings own → (q .seen ≡ true → q .rcvd ≡ q .seq → Concluded (settings own) (settings peer) q) → Idle (settings own) q →
+      settled p ≡ true → Agreed own peer p
+  unfolding settled
+  settled-agreed s k i d =
+      let n : (p .control .seen && p .control .rcvd is p .control .seq) ≡ true = and-left _ (each (λ f. not (unsynced (featureOf p f)))) d in
+      let a : p .control .rcvd ≡ p .control .seq = eqb-true (p .control .rcvd) (p .control .seq) (and-right (p .control .seen) _ n) in
+      agreed s
+      (k (sym (ap (λ (x : Core). x .seen) e) ∙ and-left (p .control .seen) _ n) (sym (ap (λ (x : Core). x .rcvd) e) ∙ a ∙ ap (λ (x : Core). x .seq) e))
+      i
 
   pub truthful : Honest (settings peer) q → Truthful peer p
   truthful h = record { own = λ f. subst (λ (x : Core). Own (settings peer .of f) (x .feat f .outcome .peer)) (sym e) (h f) }

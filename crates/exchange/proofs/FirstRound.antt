@@ -5,6 +5,7 @@ use mathlib.Core.Path.{_≡_, refl, sym, ap, _∙_}
 use mathlib.Core.Logic.{inl}
 use mathlib.Core.Bool.{Bool, true, false, not, _&&_, cond, false≢true}
 use Rattle.octets.specs.Words.{_is_}
+use Rattle.parameters.specs.declared.Feature.{Feature}
 use Rattle.parameters.specs.declared.Feature.the-variants.{Groups, Flow, Applications}
 use Rattle.feature.specs.declared.Reason.the-variants.{NoPeerYet}
 use Rattle.feature.specs.Outcome.{withoutPeer}
@@ -51,6 +52,15 @@ start s t took taken =
           let z : bump (pending s (freshMachines s) && 0 is 0) 0 ≡ 0 = rw (all-pending s, n) in
           record { rcvd = sym z; ack = sym z; synced = λ f a. absurd (false≢true (sym (some-false (advertised s) n f) ∙ a)) };
     }
+
+-- an advertised feature is asked for under SeqNo 1
+pub start-asks : (s : Settings) (f : Feature) → advertised s f ≡ true → (started s .seq ≡ 1) × (started s .feat f .sequence ≡ 1)
+unfolding started
+start-asks s f a = (by (advertises s) refl, rw (fresh-is (s .of f) a))
+  where
+    by : (b : Bool) → advertises s ≡ b → started s .seq ≡ 1
+    by true y = start s s true true .begun y .seq
+    by false n = absurd (false≢true (sym (some-false (advertised s) n f) ∙ a))
 
 -- ---- the first round: each end may or may not get past step 2
 

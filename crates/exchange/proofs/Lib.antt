@@ -11,6 +11,7 @@ pub mod Pairs
 pub mod Settling
 pub mod Idle
 pub mod Losses
+pub mod Acknowledged
 pub mod Fixed
 -- ports, frames and cards
 pub mod Steps
@@ -22,7 +23,7 @@ pub mod Started
 pub mod Claims
 -- the theorems
 pub mod Demand3
-pub mod Creation
+pub mod Starting
 pub mod NotEmpty
 pub mod Tight
 pub mod Steady

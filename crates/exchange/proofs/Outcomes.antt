@@ -3,11 +3,12 @@ use Prim.Native.Nat.{ℕ, _≤_, _%_, min}
 use native.Mathlib.Nat.{min-le-left, min-le-right, le-refl}
 use native.Mathlib.Omega.{arith}
 use mathlib.Core.Path.{_≡_, refl, sym, ap, _∙_}
-use mathlib.Core.Bool.{Bool, true, false, not}
+use mathlib.Core.Bool.{Bool, true, false, not, _&&_, Bool·beq}
 use mathlib.Core.List.{_∷_}
 use lib.ListN.{length}
-use borrow.Author.Tests.{le-ltb, eq-eqb}
+use borrow.Author.Tests.{le-ltb, eq-eqb, eqb-true, not-false}
 use Rattle.octets.specs.Words.{if_then_else_, _below_, _atmost_, _is_}
+use Rattle.octets.specs.Laws.{and-left}
 use Rattle.parameters.specs.declared.Feature.{Feature}
 use Rattle.parameters.specs.Parameters.{content}
 use Rattle.feature.specs.declared.Setting.{Setting}
@@ -180,3 +181,8 @@ outcome-final true f own peer old o error h a k e =
 pub unchanged : (o n : Outcome) → o .oper ≡ n .oper → o .error ≡ n .error → changed o n ≡ false
 unfolding changed
 unchanged o n e d = rw (e, d, is-same (n .oper), beq-same (n .error))
+
+pub same-oper : (o n : Outcome) → changed o n ≡ false → o .oper ≡ n .oper
+unfolding changed
+same-oper o n e =
+    eqb-true (o .oper) (n .oper) (and-left (o .oper is n .oper) (Bool·beq (o .error) (n .error)) (not-false (o .oper is n .oper && Bool·beq (o .error) (n .error)) e))

@@ -13,7 +13,7 @@ use Rattle.exchange.specs.Rounds.{ruled, alone}
 use Rattle.exchange.proofs.Core.{Settings, advertised, Machine, Core, written, message, changed, synced, marked, gated, recv}
 use Rattle.port.proofs.Tests.{some-false}
 use Rattle.exchange.proofs.Outcomes.{version, version-le, lower-of-two, error-final, outcome-final, unchanged}
-use Rattle.exchange.proofs.Numbers.{Begun, Asked, Answered, Done, Quiet, new-out, feature-is, done}
+use Rattle.exchange.proofs.Numbers.{All-synced, Begun, Asked, Answered, Done, Quiet, new-out, feature-is, done}
 
 -- the parameters that an end is set to are valid, and held as they are written
 abbrev pub Fit : Settings → Type 0
@@ -45,6 +45,14 @@ module _ (s t : Settings) (p : Core) where
   -- and their whole outcome
   abbrev pub Full : Type 0
   Full = (f : Feature) → advertised s f ≡ true → p .feat f .outcome ≡ alone f (s .of f) (t .of f)
+
+  -- all that demand 3 asks of an end
+  pub record Concluded : Type 0 where
+    pub low : Low
+    pub seen : p .seen ≡ true
+    pub rcvd : p .rcvd ≡ p .seq
+    pub synced : All-synced s (p .feat)
+    pub full : Full
 
   pub bound-of : Version → Bound
   bound-of h f a = rw (h f a) (version-le (advertised t f) (s .of f) (t .of f))
@@ -161,3 +169,6 @@ module _ (s t : Settings) (p : Core) (k : ℕ) (took taken : Bool) where
     pub error : Error s t p
     pub full : Full s t p
     pub done : Done s p k
+
+pub five-concluded : (s t : Settings) (p : Core) (k : ℕ) (took taken : Bool) → After5 s t p k took taken → Concluded s t p
+five-concluded s t p k took taken h = record { low = h .low; seen = h .seen; rcvd = h .done .rcvd; synced = h .done .synced; full = h .full }

@@ -13,7 +13,6 @@ use Rattle.parameters.specs.declared.Feature.{Feature}
 use Rattle.parameters.specs.declared.Feature.the-variants.{Groups, Flow, Applications}
 use Rattle.parameters.specs.Parameters as parameters
 use Rattle.feature.specs.declared.Switches.{Switches}
-use Rattle.feature.specs.Reasons.{reasonNumber}
 use Rattle.feature.specs.Outcome as rules
 use Rattle.feature.specs.State as state
 use Rattle.notices.specs.Notices as notices
@@ -28,7 +27,7 @@ use Rattle.exchange.specs.Rounds as ends
 use Rattle.exchange.specs.Rounds.{Ends, Round, rounds, execAll, Proper}
 use Rattle.exchange.specs.Demand3.{Begun}
 use Rattle.exchange.proofs.NotEmpty.{lent, plainRound, plain-rounds}
-use Rattle.exchange.proofs.Creation.{created-started}
+use Rattle.exchange.proofs.Starting.{created-started}
 
 -- W7: "W6 with control Max 0 and 1, flow control Max 1 and 0 in that order", masks 08 and 10
 unfoldable versions : ℕ → ℕ → Versions
@@ -58,8 +57,8 @@ begun : Begun w7
 unfolding w7 created desired versions card.created events.created events.settingsValid parameters.validLocal parameters.localValues parameters.valid parameters.validGroups parameters.validFlow parameters.validApplications parameters.goodHalves parameters.sum parameters.allFrom parameters.newName parameters.sameName parameters.ones
 begun =
     record {
-      l = created-started (versions 0 1) unwilling (desired 8) (lit< tt) (small 1 (lit< tt) 0) true refl;
-      r = created-started (versions 1 0) unwilling (desired 16) (lit< tt) (small 0 (lit< tt) 1) true refl;
+      l = created-started (record { versions = versions 0 1; switches = unwilling; parameters = desired 8; control = lit< tt; features = small 1 (lit< tt) 0; done = refl });
+      r = created-started (record { versions = versions 1 0; switches = unwilling; parameters = desired 16; control = lit< tt; features = small 0 (lit< tt) 1; done = refl });
       no-l = refl;
       no-r = refl;
     }
