@@ -15,12 +15,11 @@ use Rattle.octets.specs.Laws.{and-left}
 use Rattle.tlv.specs.declared.Refusal.the-variants.{NotDcbx, WrongLength, PastEnd, ControlLength, ControlVersion}
 use Rattle.tlv.specs.declared.Found.{Found}
 use Rattle.tlv.specs.declared.Contents.{Contents}
-use Rattle.tlv.specs.declared.Walk.{Walk}
 use Rattle.tlv.specs.declared.Reading.{Reading}
 use Rattle.tlv.specs.declared.Reading.the-variants.{Refused, Accepted}
 use Rattle.tlv.specs.Refusals.{refusalNumber}
-use Rattle.tlv.specs.Layout.{fixedOctets, typeAt, lengthAt, counts, foundAgain, noted, noContents, onward, walkFrom, walked, valueOf, isDcbx, judgedControl, readFrame}
-use Rattle.tlv.specs.Laws.{head-past, head-whole, walked-inside}
+use Rattle.tlv.specs.Layout.{Walked, fixedOctets, typeAt, lengthAt, counts, foundAgain, noted, noContents, onward, walkFrom, walked, valueOf, isDcbx, judgedControl, readFrame}
+use Rattle.tlv.specs.Laws.{head-end, head-past, head-whole, walked-inside}
 use Rattle.card.specs.Rows.{pastEnd, controlsIn, controls, theOne, notDcbx}
 
 -- ---- the walk over sub-TLVs
@@ -52,7 +51,7 @@ lastOf v [] = v
 lastOf v (u ∷ us) = lastOf u us
 
 -- how a walk ends that found x of controls before and still finds those of the values vs
-record Ends (o : List ℕ) (x : Found) (w : Walk) (beyond : Bool) (vs : List (List ℕ)) : Type 0 where
+record Ends (o : List ℕ) (x : Found) (w : Walked) (beyond : Bool) (vs : List (List ℕ)) : Type 0 where
   past : w .past ≡ beyond
   count : w .contents .control .count ≡ min 2 (x .count + length vs)
   value : valueOf o (w .contents .control) ≡ lastOf (valueOf o x) vs
@@ -71,7 +70,7 @@ module _ (o : List ℕ) where
       by false = h
 
   -- one sub-TLV more
-  more : (c : Contents) (type start n : ℕ) (w : Walk) (p : Bool) (vs : List (List ℕ)) (b : Bool) → (type is 1) ≡ b →
+  more : (c : Contents) (type start n : ℕ) (w : Walked) (p : Bool) (vs : List (List ℕ)) (b : Bool) → (type is 1) ≡ b →
       Ends o (noted o c type start n .control) w p vs → Ends o (c .control) w p (if b then take n (drop start o) ∷ vs else vs)
   unfolding lastOf foundAgain
   more c type start n w p vs true e r =
@@ -103,13 +102,13 @@ module _ (o : List ℕ) where
                   drop-drop (2 + lengthAt o i) i o ∙ ap (λ (m : ℕ). drop m o) j in
                   let v : take (lengthAt o i) (drop 2 (drop i o)) ≡ take (lengthAt o i) (drop (i + 2) o) = ap (take (lengthAt o i)) (drop-drop 2 i o) in
                   let r = later (i + 2 + lengthAt o i) (noted o c (typeAt o i) (i + 2) (lengthAt o i)) (small c (typeAt o i) (i + 2) (lengthAt o i) h) in
-                  simp (lt-ltb i (length o) t, ne-eqb (length (drop i o)) 0 (omega arith), a, b, sym (head-whole o i refl u), le-ltb (length (drop i o)) 2 (omega arith), le-ltb (length (drop i o)) (2 + lengthAt o i) (omega arith), z, v)
+                  simp (ne-eqb (length (drop i o)) 0 (omega arith), a, b, sym (head-whole o i refl u), le-ltb (length (drop i o)) 2 (omega arith), le-ltb (length (drop i o)) (2 + lengthAt o i) (omega arith), z, v)
                   (more c (typeAt o i) (i + 2) (lengthAt o i) _ _ _ _ refl r)
               | no u ↦
-                  simp (lt-ltb i (length o) t, ne-eqb (length (drop i o)) 0 (omega arith), a, b, sym (head-past o i (omega arith)), lt-ltb (length (drop i o)) (2 + lengthAt o i) (omega arith), or-true)
+                  simp (ne-eqb (length (drop i o)) 0 (omega arith), a, b, sym (head-past o i t (omega arith)), lt-ltb (length (drop i o)) (2 + lengthAt o i) (omega arith), or-true)
                   (ended c true h)
             ]
-            | no t ↦ simp (le-ltb i (length o) (omega arith), eq-eqb (length (drop i o)) 0 (omega arith)) (ended c false h)
+            | no t ↦ simp (sym (head-end o i (omega arith)), eq-eqb (length (drop i o)) 0 (omega arith)) (ended c false h)
           ]
 
 -- ---- row by row

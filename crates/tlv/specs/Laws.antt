@@ -1,6 +1,6 @@
 -- Laws of the definitions of Layout, one for each answer of the code. Assumes nothing.
 use Prim.Native.Nat.{ℕ, zero, suc, _+_, _-_, _<_, _≤_, _^_, min}
-use mathlib.Core.Path.{_≡_, _∙_, refl, sym}
+use mathlib.Core.Path.{_≡_, _∙_, refl, sym, ap}
 use mathlib.Core.Bool.{Bool, true, false, not, _&&_}
 use mathlib.Core.List.{List}
 use native.Mathlib.Omega.{arith}
@@ -11,25 +11,32 @@ use Rattle.octets.specs.Octets.{at, same}
 use Rattle.tlv.specs.declared.Refusal.{Refusal}
 use Rattle.tlv.specs.declared.Refusal.the-variants.{NotDcbx, WrongLength, PastEnd, NoControl, ControlLength, ControlVersion}
 use Rattle.tlv.specs.declared.Head.{Head}
-use Rattle.tlv.specs.declared.Head.the-variants.{Past, SubTlv}
+use Rattle.tlv.specs.declared.Head.the-variants.{End, Past, SubTlv}
 use Rattle.tlv.specs.declared.Found.{Found}
 use Rattle.tlv.specs.declared.Contents.{Contents}
 use Rattle.tlv.specs.declared.Walk.{Walk}
 use Rattle.tlv.specs.declared.Reading.{Reading}
 use Rattle.tlv.specs.declared.Reading.the-variants.{Refused, Accepted}
-use Rattle.tlv.specs.Layout.{fixedOctets, typeAt, lengthAt, headAt, counts, foundAgain, noted, noContents, onward, walkFrom, walked, isDcbx, judgedControl, readFrame}
+use Rattle.tlv.specs.Layout.{Walked, fixedOctets, typeAt, lengthAt, headAt, counts, foundAgain, noted, noContents, onward, walkFrom, walked, isDcbx, judgedControl, readFrame}
 use Rattle.tlv.specs.Promises.{Inside, WalkPromise, ReadPromise}
 
 -- ---- the head at a place
 
 module _ (o : List ℕ) (i : ℕ) where
-  pub head-past : length o < i + 2 + lengthAt o i → Past ≡ headAt o i
+  pub head-end : length o ≤ i → End ≡ headAt o i
   unfolding headAt
-  head-past h = simp (lt-leb (i + 2 + lengthAt o i) (length o) h)
+  head-end h = simp (le-leb (length o) i h)
+
+  pub head-past : i < length o → length o < i + 2 + lengthAt o i → Past ≡ headAt o i
+  unfolding headAt
+  head-past t h = simp (lt-leb (length o) i t, lt-leb (i + 2 + lengthAt o i) (length o) h)
 
   pub head-whole : {n : ℕ} → n ≡ lengthAt o i → i + 2 + n ≤ length o → SubTlv (typeAt o i) (i + 2) n ≡ headAt o i
   unfolding headAt
-  head-whole {n} e h = rw e (simp (le-leb (i + 2 + lengthAt o i) (length o) (rw e at h)))
+  head-whole {n} e h = rw e (simp (lt-leb (length o) i (omega arith), le-leb (i + 2 + lengthAt o i) (length o) (rw e at h)))
+
+pub end-is-not-past : End ≡ Past → ⊥
+end-is-not-past e = let z : _≡_ {A = ℕ} 0 1 = cc in absurd (omega arith)
 
 -- a whole sub-TLV ends within the octets, past its head
 pub record Within (o : List ℕ) (i start n : ℕ) : Type 0 where
@@ -38,16 +45,17 @@ pub record Within (o : List ℕ) (i start n : ℕ) : Type 0 where
 
 pub head-within : {o : List ℕ} {i type start n : ℕ} {d : Head} → d ≡ headAt o i → d ≡ SubTlv type start n → Within o i start n
 unfolding headAt
-head-within {o} {i} {type} {start} {n} e f = here (i + 2 + lengthAt o i atmost length o) refl (sym e ∙ f)
+head-within {o} {i} {type} {start} {n} e f = here (length o atmost i) (i + 2 + lengthAt o i atmost length o) refl (sym e ∙ f)
   where
-    here : (b : Bool) → (i + 2 + lengthAt o i atmost length o) ≡ b
-        → (if b then SubTlv (typeAt o i) (i + 2) (lengthAt o i) else Past) ≡ SubTlv type start n → Within o i start n
-    here true q r =
+    here : (a b : Bool) → (i + 2 + lengthAt o i atmost length o) ≡ b
+        → (if a then End else if b then SubTlv (typeAt o i) (i + 2) (lengthAt o i) else Past) ≡ SubTlv type start n → Within o i start n
+    here true b q r = let z : _≡_ {A = ℕ} 0 1 = cc in absurd (omega arith)
+    here false true q r =
         let h : i + 2 + lengthAt o i ≤ length o = leb-true _ _ q in
         let s : i + 2 ≡ start = cc in
         let l : lengthAt o i ≡ n = cc in
         record { low = omega arith; high = omega arith }
-    here false q r = let z : _≡_ {A = ℕ} 0 1 = cc in absurd (omega arith)
+    here false false q r = let z : _≡_ {A = ℕ} 0 1 = cc in absurd (omega arith)
 
 module _ (o : List ℕ) (i : ℕ) {type start n : ℕ} {d : Head} where
   pub head-ends : d ≡ headAt o i → d ≡ SubTlv type start n → start + n ≤ length o
@@ -56,8 +64,8 @@ module _ (o : List ℕ) (i : ℕ) {type start n : ℕ} {d : Head} where
   pub head-fits : d ≡ headAt o i → d ≡ SubTlv type start n → length o < 2 ^ 64 → start + n < 2 ^ 64
   head-fits e f h = let w = head-within e f in omega arith
 
-  pub head-onward : d ≡ headAt o i → d ≡ SubTlv type start n → i < length o → length o - (start + n) < length o - i
-  head-onward e f h = let w = head-within e f in omega arith
+  pub head-onward : d ≡ headAt o i → d ≡ SubTlv type start n → length o - (start + n) < length o - i
+  head-onward e f = let w = head-within e f in omega arith
 
 -- ---- one sub-TLV noted
 
@@ -142,14 +150,14 @@ noted-inside {o} {c} type start n h i =
 walkFrom-inside : (k : ℕ) (o : List ℕ) (i : ℕ) (c : Contents) → Inside o c → Inside o (walkFrom k o i c .contents)
 unfolding walkFrom onward
 walkFrom-inside zero o i c h = h
-walkFrom-inside (suc k) o i c h = here (λ j d t. walkFrom-inside k o j d t) (i below length o) (headAt o i) refl
+walkFrom-inside (suc k) o i c h = here (λ j d t. walkFrom-inside k o j d t) (headAt o i) refl
   where
-    here : ((j : ℕ) (d : Contents) → Inside o d → Inside o (walkFrom k o j d .contents)) → (b : Bool) (x : Head) → x ≡ headAt o i
-        → Inside o ((if b then onward o x c (λ j d. walkFrom k o j d) else record { past = false; contents = c }) .contents)
-    here later true Past e = h
-    here later true (SubTlv type start n) e =
+    here : ((j : ℕ) (d : Contents) → Inside o d → Inside o (walkFrom k o j d .contents)) → (x : Head) → x ≡ headAt o i
+        → Inside o (onward o x c (λ j d. walkFrom k o j d) .contents)
+    here later End e = h
+    here later Past e = h
+    here later (SubTlv type start n) e =
         later (start + n) (noted o c type start n) (noted-inside type start n (head-within e refl .high) h)
-    here later false x e = h
 
 -- wherever the walk ends, what it has found lies within the octets
 pub walked-inside : (o : List ℕ) → Inside o (walked o .contents)
@@ -157,8 +165,10 @@ unfolding walked
 walked-inside o =
     walkFrom-inside (length o) o 6 noContents (record { control = omega arith; groups = omega arith; flow = omega arith; applications = omega arith })
 
-walk-promise : {o : List ℕ} {w : Walk} → w ≡ walked o → WalkPromise o w
-walk-promise {o} e = record { is = e; inside = rw e (walked-inside o) }
+walk-promise : {o : List ℕ} {b : Bool} {c : Contents} → record { past = b; contents = c } ≡ walked o → WalkPromise o (record { past = b; contents = c })
+walk-promise {o} {b} {c} e =
+    let d : c ≡ walked o .contents = ap (λ (w : Walked). w .contents) e in
+    record { past = ap (λ (w : Walked). w .past) e; contents = d; inside = rw d (walked-inside o) }
 
 -- the walk has come to a place, and goes on from there with steps enough
 pub record Going (o : List ℕ) (i : ℕ) (c : Contents) : Type 0 where
@@ -170,33 +180,33 @@ pub going-start : {o : List ℕ} {c : Contents} → c ≡ noContents → Going o
 unfolding walked
 going-start {o} e = record { steps = length o; enough = omega arith; left = rw e refl }
 
-pub going-end : {o : List ℕ} {i : ℕ} {c : Contents} → Going o i c → length o ≤ i → WalkPromise o (record { past = false; contents = c })
-unfolding walkFrom
-going-end {o} {i} {c} g h = walk-promise (here (g .steps) (g .left))
-  where
-    here : (k : ℕ) → walkFrom k o i c ≡ walked o → record { past = false; contents = c } ≡ walked o
-    here zero e = e
-    here (suc k) e = simp (le-ltb i (length o) h) at e
-
 module _ {o : List ℕ} {i : ℕ} {c : Contents} {d : Head} where
-  pub going-past : Going o i c → i < length o → d ≡ headAt o i → d ≡ Past → WalkPromise o (record { past = true; contents = c })
+  pub going-end : Going o i c → d ≡ headAt o i → d ≡ End → WalkPromise o (record { past = false; contents = c })
   unfolding walkFrom onward
-  going-past g h r p = walk-promise (here (g .steps) (g .enough) (g .left))
+  going-end g r p = walk-promise (here (g .steps) (g .left))
+    where
+      here : (k : ℕ) → walkFrom k o i c ≡ walked o → record { past = false; contents = c } ≡ walked o
+      here zero e = e
+      here (suc k) e = simp (sym r, p) at e
+
+  pub going-past : Going o i c → d ≡ headAt o i → d ≡ Past → WalkPromise o (record { past = true; contents = c })
+  unfolding walkFrom onward
+  going-past g r p = walk-promise (here (g .steps) (g .enough) (g .left))
     where
       here : (k : ℕ) → length o ≤ i + k → walkFrom k o i c ≡ walked o → record { past = true; contents = c } ≡ walked o
-      here zero n e = absurd (omega arith)
-      here (suc k) n e = simp (lt-ltb i (length o) h, sym r, p) at e
+      here zero n e = let z : End ≡ Past = head-end o i (omega arith) ∙ sym r ∙ p in absurd (end-is-not-past z)
+      here (suc k) n e = simp (sym r, p) at e
 
-  pub going-on : {e : Contents} {type start n : ℕ} → Going o i c → i < length o → d ≡ headAt o i → d ≡ SubTlv type start n
+  pub going-on : {e : Contents} {type start n : ℕ} → Going o i c → d ≡ headAt o i → d ≡ SubTlv type start n
       → e ≡ noted o c type start n → Going o (start + n) e
   unfolding walkFrom onward
-  going-on {e} {type} {start} {n} g h r p q = rw q (here (g .steps) (g .enough) (g .left))
+  going-on {e} {type} {start} {n} g r p q = rw q (here (g .steps) (g .enough) (g .left))
     where
       here : (k : ℕ) → length o ≤ i + k → walkFrom k o i c ≡ walked o → Going o (start + n) (noted o c type start n)
-      here zero m l = absurd (omega arith)
+      here zero m l = let w = head-within r p in absurd (omega arith)
       here (suc k) m l =
           let w = head-within r p in
-          record { steps = k; enough = omega arith; left = simp (lt-ltb i (length o) h, sym r, p) at l }
+          record { steps = k; enough = omega arith; left = simp (sym r, p) at l }
 
 -- ---- refusals 3 to 8
 
@@ -277,14 +287,14 @@ module _ (o : List ℕ) {b : Bool} where
   pub read-past : {n : ℕ} {w : Walk} → b ≡ isDcbx o → not b ≡ false → n ≡ lengthAt o 0 → n + 2 ≡ length o → WalkPromise o w
       → w .past ≡ true → ReadPromise o (Refused PastEnd)
   unfolding readFrame
-  read-past {n} e t l m w p = refused-promise (simp (sym e, t, sym l, eq-eqb (n + 2) (length o) m, sym (w .is), p))
+  read-past {n} e t l m w p = refused-promise (simp (sym e, t, sym l, eq-eqb (n + 2) (length o) m, sym (w .past), p))
 
   pub read-judged : {n : ℕ} {w : Walk} {r : Reading} → b ≡ isDcbx o → not b ≡ false → n ≡ lengthAt o 0 → n + 2 ≡ length o → WalkPromise o w
       → w .past ≡ false → r ≡ judgedControl o (w .contents) → ReadPromise o r
   unfolding readFrame
   read-judged {n} {w} e t l m k p j =
       record {
-        is = simp (j, sym e, t, sym l, eq-eqb (n + 2) (length o) m, sym (k .is), p);
+        is = simp (j, sym e, t, sym l, eq-eqb (n + 2) (length o) m, sym (k .past), sym (k .contents), p);
         inside = λ c q. rw (judged-accepts o (w .contents) c (sym j ∙ q)) at (k .inside);
       }
 

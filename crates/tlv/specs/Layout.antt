@@ -7,10 +7,9 @@ use Rattle.octets.specs.Words.{if_then_else_, _below_, _atmost_, _is_}
 use Rattle.octets.specs.Octets.{at, head, same}
 use Rattle.tlv.specs.declared.Refusal.the-variants.{NotDcbx, WrongLength, PastEnd, NoControl, ControlLength, ControlVersion}
 use Rattle.tlv.specs.declared.Head.{Head}
-use Rattle.tlv.specs.declared.Head.the-variants.{Past, SubTlv}
+use Rattle.tlv.specs.declared.Head.the-variants.{End, Past, SubTlv}
 use Rattle.tlv.specs.declared.Found.{Found}
 use Rattle.tlv.specs.declared.Contents.{Contents}
-use Rattle.tlv.specs.declared.Walk.{Walk}
 use Rattle.tlv.specs.declared.Reading.{Reading}
 use Rattle.tlv.specs.declared.Reading.the-variants.{Refused, Accepted}
 
@@ -29,10 +28,12 @@ lengthAt o i = at o i % 2 * 256 + at o (i + 1)
 abbrev pub frameHead : ℕ → List ℕ
 frameHead n = head 127 (4 + n) ++ fixedOctets
 
--- the sub-TLV whose head stands at a place: its type, and its value by start and length
+-- what stands at a place: the end of the octets; or a sub-TLV, by its type and its value's start and length; or one that, or whose
+-- head, "runs past the end"
 unfoldable pub headAt : List ℕ → ℕ → Head
 headAt o i =
-    if i + 2 + lengthAt o i atmost length o then SubTlv (typeAt o i) (i + 2) (lengthAt o i)
+    if length o atmost i then End
+    else if i + 2 + lengthAt o i atmost length o then SubTlv (typeAt o i) (i + 2) (lengthAt o i)
     else Past
 
 -- how often a type came, two standing for "two or more", and the value of the last
@@ -59,18 +60,22 @@ nothingFound = record { count = 0; start = 0; length = 0 }
 abbrev pub noContents : Contents
 noContents = record { control = nothingFound; groups = nothingFound; flow = nothingFound; applications = nothingFound }
 
+-- how a walk ends: whether at a sub-TLV that runs past the end, and what was found before
+pub record Walked : Type 0 where
+  pub past : Bool
+  pub contents : Contents
+
 -- the walk from head to head; each takes two octets or more, so the length is steps enough
-unfoldable pub onward : List ℕ → Head → Contents → (ℕ → Contents → Walk) → Walk
+unfoldable pub onward : List ℕ → Head → Contents → (ℕ → Contents → Walked) → Walked
+onward o End c next = record { past = false; contents = c }
 onward o Past c next = record { past = true; contents = c }
 onward o (SubTlv type start n) c next = next (start + n) (noted o c type start n)
 
-unfoldable pub walkFrom : ℕ → List ℕ → ℕ → Contents → Walk
+unfoldable pub walkFrom : ℕ → List ℕ → ℕ → Contents → Walked
 walkFrom zero o i c = record { past = false; contents = c }
-walkFrom (suc k) o i c =
-    if i below length o then onward o (headAt o i) c (λ j d. walkFrom k o j d)
-    else record { past = false; contents = c }
+walkFrom (suc k) o i c = onward o (headAt o i) c (λ j d. walkFrom k o j d)
 
-unfoldable pub walked : List ℕ → Walk
+unfoldable pub walked : List ℕ → Walked
 walked o = walkFrom (length o) o 6 noContents
 
 -- the octets of a value that was found

@@ -2,7 +2,9 @@ pub mod Refusals
 pub mod Layout
 pub mod Replies
 pub mod Promises
+pub mod Walking
 pub mod Laws
 pub mod ValuesLaws
 pub mod WrittenLaws
 pub mod ReadBackLaws
+pub mod WalkingLaws

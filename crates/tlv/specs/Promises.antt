@@ -17,7 +17,8 @@ pub record Inside (o : List ℕ) (c : Contents) : Type 0 where
   pub applications : c .applications .start + c .applications .length ≤ length o
 
 pub record WalkPromise (o : List ℕ) (w : Walk) : Type 0 where
-  pub is : w ≡ walked o
+  pub past : w .past ≡ walked o .past
+  pub contents : w .contents ≡ walked o .contents
   pub inside : Inside o (w .contents)
 
 pub record ReadPromise (o : List ℕ) (r : Reading) : Type 0 where

@@ -5,17 +5,16 @@ use mathlib.Core.Bool.{Bool, true, false, not, _||_}
 use mathlib.Core.List.{List, [], _∷_, _++_, append-assoc, append-nil}
 use native.Mathlib.Omega.{arith}
 use native.Mathlib.Nat.{add-zero}
-use borrow.Author.Tests.{le-leb, lt-ltb, le-ltb, ltb-false, eq-eqb}
+use borrow.Author.Tests.{le-leb, ltb-false, eq-eqb}
 use lib.ListN.{length, take, drop, length-append, length-take, length-drop, List·getD-append}
 use lib.Seq.{getD-take, getD-drop, drop-drop, take-append-seam, drop-append-seam}
 use Rattle.octets.specs.Words.{if_then_else_, _below_, _is_}
 use Rattle.octets.specs.Octets.{at, same}
 use Rattle.tlv.specs.declared.Head.the-variants.{SubTlv}
 use Rattle.tlv.specs.declared.Contents.{Contents}
-use Rattle.tlv.specs.declared.Walk.{Walk}
 use Rattle.tlv.specs.declared.Reading.the-variants.{Accepted}
-use Rattle.tlv.specs.Layout.{typeAt, lengthAt, headAt, counts, foundAgain, noted, onward, walkFrom, walked, isDcbx, judgedControl, readFrame}
-use Rattle.tlv.specs.Laws.{choice, head-whole, walked-inside, one-control}
+use Rattle.tlv.specs.Layout.{Walked, typeAt, lengthAt, headAt, counts, foundAgain, noted, onward, walkFrom, walked, isDcbx, judgedControl, readFrame}
+use Rattle.tlv.specs.Laws.{choice, head-end, head-whole, walked-inside, one-control}
 use Rattle.tlv.specs.Promises.{Inside}
 use Rattle.tlv.specs.ValuesLaws.{Tlv, octetsOf, octetsAll, frameOf, Values, OneControl, valuesIn, noValue, noValues, countedAgain, countsValue, notedValue, notedValues, Part, Parts, partOctets, partsOctets, partsValues, LaidOut}
 
@@ -85,7 +84,7 @@ module _ (o : List ℕ) (i : ℕ) (t : Tlv) (rest : List ℕ) (s : drop i o ≡ 
 -- ---- all of them
 
 -- a walk that came to the end, and what it found
-pub record Walks (o : List ℕ) (w : Walk) (x : Values) : Type 0 where
+pub record Walks (o : List ℕ) (w : Walked) (x : Values) : Type 0 where
   pub whole : w .past ≡ false
   pub values : valuesIn o (w .contents) ≡ x
 
@@ -94,13 +93,13 @@ pub walks-written : (o : List ℕ) (ts : List Tlv) (k i : ℕ) (c : Contents) �
 unfolding walkFrom onward octetsAll notedValues
 walks-written o [] zero i c z h s = record { whole = refl; values = refl }
 walks-written o [] (suc k) i c z h s =
-    simp (le-ltb i (length o) (omega (arith, ap length s, length-drop i o))) (record { whole = refl; values = refl })
+    simp (sym (head-end o i (omega (arith, ap length s, length-drop i o)))) (record { whole = refl; values = refl })
 walks-written o (t ∷ ts) zero i c z h s = absurd (omega arith)
 walks-written o (t ∷ ts) (suc k) i c z h s =
     let m = written-length o i t (octetsAll ts) s in
     let e = length-append (t .value) (octetsAll ts) in
     let r = walks-written o ts k (i + 2 + length (t .value)) (noted o c (t .kind) (i + 2) (length (t .value))) (z .1) (omega arith) (written-rest o i t (octetsAll ts) s) in
-    simp (lt-ltb i (length o) (omega arith), written-head o i t (octetsAll ts) s (z .0)) (rw (written-noted o i t (octetsAll ts) s c) at r)
+    simp (written-head o i t (octetsAll ts) s (z .0)) (rw (written-noted o i t (octetsAll ts) s c) at r)
 
 -- ---- frames
 

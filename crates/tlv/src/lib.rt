@@ -44,6 +44,8 @@ pub enum Refusal {
 
 // What stands at a place of the TLV.
 pub enum Head {
+    // Nothing: the octets end here.
+    End,
     // A head, or the value behind it, runs past the end.
     Past,
     // A whole sub-TLV, whose value is `length` octets from `start`.
@@ -108,12 +110,12 @@ fn length_at(s: &[u8], at: usize) -> usize
     octets::wide(s[at] % 2) * 256 + octets::wide(s[at + 1])
 }
 
-// The sub-TLV whose head stands at `at`.
+// What stands at `at`: the sub-TLV whose head is there, if the octets go on.
 pub fn head_at(s: &[u8], at: usize) -> Head
     ensures { λ r. ⌜ r ≡ headAt (now (s .entry)) at ⌝ }
 {
     if s.len() <= at {
-        return Head::Past;
+        return Head::End;
     }
     let left = s.len() - at;
     if left < 2 {
@@ -210,9 +212,15 @@ fn walk_sub_tlvs(s: &[u8]) -> Walk
 {
     let mut contents = nothing_found();
     let mut at = 6;
-    while at < s.len() {
+    loop {
         let head = head_at(s, at);
         match head {
+            Head::End => {
+                return Walk {
+                    past: false,
+                    contents: contents,
+                };
+            }
             Head::Past => {
                 return Walk {
                     past: true,
@@ -228,10 +236,6 @@ fn walk_sub_tlvs(s: &[u8]) -> Walk
                 at = start + length;
             }
         }
-    }
-    Walk {
-        past: false,
-        contents: contents,
     }
 }
 

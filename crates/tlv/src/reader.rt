@@ -1,7 +1,7 @@
 // A thin reader over a frame: it holds the slice and a place, and hands out sub-TLVs one at a time over the caller's own
-// octets. Callers that need no struct use `head_at` on slice and place.
-ghost use mathlib.Core.Path.{_≡_};
-ghost use Rattle.tlv.specs.Layout.{headAt};
+// octets. To walk: `next`, and behind each sub-TLV `moved` to `start + length`. Callers that need no struct use `head_at`
+// on slice and place.
+ghost use Rattle.tlv.specs.Walking.{New, Next, Moved};
 use crate::Head;
 
 pub struct Reader<'a> {
@@ -11,21 +11,21 @@ pub struct Reader<'a> {
 
 // At the first sub-TLV, behind the six octets at the frame's head.
 pub fn new<'a>(src: &'a [u8]) -> Reader<'a>
-    ensures { λ r. ⌜ (r .src ≡ src .entry) × (r .at ≡ 6) ⌝ }
+    ensures { λ r. ⌜ New (src .entry) r ⌝ }
 {
     Reader { src, at: 6 }
 }
 
-// The sub-TLV at the reader's place.
+// What stands at the reader's place: a sub-TLV, one that runs over, or the end.
 pub fn next<'a>(r: Reader<'a>) -> Head
-    ensures { λ h. ⌜ h ≡ headAt (now (r .entry .src)) (r .entry .at) ⌝ }
+    ensures { λ h. ⌜ Next (r .entry) h ⌝ }
 {
     crate::head_at(r.src, r.at)
 }
 
 // The reader at another place, behind the sub-TLV that it handed out.
 pub fn moved<'a>(r: Reader<'a>, at: usize) -> Reader<'a>
-    ensures { λ q. ⌜ (q .src ≡ r .entry .src) × (q .at ≡ at) ⌝ }
+    ensures { λ q. ⌜ Moved (r .entry) at q ⌝ }
 {
     Reader { src: r.src, at }
 }

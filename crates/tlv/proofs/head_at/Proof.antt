@@ -1,24 +1,24 @@
--- `tlv::head_at` meets its contract, at any place: a head or a value that does not fit is past the end. Assumes nothing.
+-- `tlv::head_at` meets its contract, at any place: behind the last octet is the end; a head or a value that does not fit is past it. Assumes nothing.
 use borrow.Author.Needs.{needs}
 use native.Mathlib.Omega.{arith}
-use Rattle.tlv.specs.Laws.{head-past, head-whole}
+use Rattle.tlv.specs.Laws.{head-end, head-past, head-whole}
 use Rattle.tlv.proofs.head_at.Statement.{statement}
 use Rattle.tlv.proofs.head_at.Tie as tie
 
 returns : tie.Need-returns
-returns c = head-past _ _ (omega arith)
+returns c = search head-end
 
 sub-left : tie.Need-sub-left
 sub-left c = search needs
 
 returns-2 : tie.Need-returns-2
-returns-2 c = head-past _ _ (omega arith)
+returns-2 c = head-past _ _ (omega arith) (omega arith)
 
 length-at-requires : tie.Need-length-at-requires
 length-at-requires c κs = search needs
 
 returns-3 : tie.Need-returns-3
-returns-3 c = head-past _ _ (omega arith)
+returns-3 c = head-past _ _ (omega arith) (omega arith)
 
 shared-slice-read-t8 : tie.Need-shared-slice-read-t8
 shared-slice-read-t8 c = search needs

@@ -2,7 +2,7 @@
 use borrow.Author.Needs.{needs}
 use Prim.Native.Nat.{_-_}
 use lib.ListN.{length}
-use Rattle.tlv.specs.Laws.{Going, going-start, going-past, going-on, going-end, head-ends, head-fits, head-onward}
+use Rattle.tlv.specs.Laws.{Going, going-start, going-end, going-past, going-on, head-ends, head-fits, head-onward}
 use Rattle.tlv.proofs.walk_sub_tlvs.Statement.{statement}
 use Rattle.tlv.proofs.walk_sub_tlvs.Tie as tie
 
@@ -25,7 +25,13 @@ enum-told : tie.Need-enum-told Inv-loop μ-loop
 enum-told c = search needs
 
 returns : tie.Need-returns Inv-loop μ-loop
-returns c = search going-past
+returns c = search going-end
+
+enum-told-2 : tie.Need-enum-told-2 Inv-loop μ-loop
+enum-told-2 c = search needs
+
+returns-2 : tie.Need-returns-2 Inv-loop μ-loop
+returns-2 c = search going-past
 
 enum-known-head : tie.Need-enum-known-head Inv-loop μ-loop
 enum-known-head c = search needs
@@ -42,9 +48,6 @@ loop-less c = search head-onward
 loop-again : tie.Need-loop-again Inv-loop μ-loop
 loop-again c = search going-on
 
-returns-2 : tie.Need-returns-2 Inv-loop μ-loop
-returns-2 c = search going-end
-
 pub walk-sub-tlvs-spec : {M : Type 1} → statement M
 walk-sub-tlvs-spec =
     tie.close
@@ -56,9 +59,10 @@ walk-sub-tlvs-spec =
     head-at-requires
     enum-told
     returns
+    enum-told-2
+    returns-2
     enum-known-head
     note-requires
     add-at
     loop-less
-    loop-again
-    returns-2)
+    loop-again)
