@@ -1,13 +1,16 @@
--- A round by its four calls: a law for each way out. Assumes nothing.
+-- A round by its four calls, and both ends settled: a law for each way out. Assumes nothing.
 use Prim.Native.Nat.{ℕ}
 use mathlib.Core.Path.{_≡_, refl, ap, _∙_}
+use mathlib.Core.Bool.{Bool, _&&_}
 use mathlib.Core.List.{List}
 use mathlib.Core.Option.{none}
 use lib.ListN.{take}
 use Rattle.tlv.specs.declared.Refusal.{Refusal}
+use Rattle.port.specs.declared.Port.{Port}
 use Rattle.port.specs.declared.Written.{Written}
 use Rattle.port.specs.declared.Written.the-variants as wrote
 use Rattle.port.specs.Writing.{Wrote}
+use Rattle.port.specs.Settled.{settled}
 use Rattle.card.specs.declared.Card.{Card}
 use Rattle.card.specs.declared.Handled.{Handled}
 use Rattle.card.specs.Card.{handled}
@@ -44,3 +47,6 @@ rounded l r ol or el er ex ey =
       output-l = el .octets;
       output-r = er .octets;
     }
+
+pub both-settled : (l r : Port) {a b : Bool} → a ≡ settled l → b ≡ settled r → (a && b) ≡ (settled l && settled r)
+both-settled l r el er = λ i. el i && er i

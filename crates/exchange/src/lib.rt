@@ -1,5 +1,7 @@
 // Two ends of a cable: one round between two cards over lent buffers.
 ghost use mathlib.Core.Path.{_≡_};
+ghost use mathlib.Core.Bool.{_&&_};
+ghost use Rattle.port.specs.Settled.{settled};
 ghost use Rattle.exchange.specs.Round.{Rounded};
 ghost use Rattle.exchange.specs.RoundLaws.{received};
 use card::Card;
@@ -39,4 +41,13 @@ pub fn round(l: Card, r: Card, out_l: &mut [u8], out_r: &mut [u8]) -> Pair
         left: left,
         right: right,
     }
+}
+
+// Whether the exchange has come to rest at both ends.
+pub fn settled(l: Card, r: Card) -> bool
+    ensures { λ b. ⌜ b ≡ (settled (l .port) && settled (r .port)) ⌝ }
+{
+    let left = port::events::settled(l.port);
+    let right = port::events::settled(r.port);
+    left & right
 }

@@ -28,49 +28,11 @@ fn round(e: Ends) -> Ends {
     }
 }
 
-fn is_synced(x: State) -> bool {
-    let s = x.setting;
-    if s.advertise {
-        return x.syncd;
-    }
-    true
-}
-
-// A peer is seen, RcvdAckNo = SeqNo, and every advertised feature is Syncd.
-fn is_settled(c: Card) -> bool {
-    let p = c.port;
-    let k = p.control;
-    let g = p.groups;
-    let w = p.flow;
-    let a = p.applications;
-    if !k.seen {
-        return false;
-    }
-    if k.rcvd != k.seq {
-        return false;
-    }
-    if !is_synced(g) {
-        return false;
-    }
-    if !is_synced(w) {
-        return false;
-    }
-    is_synced(a)
-}
-
-fn both_settled(e: Ends) -> bool {
-    let a = e.a;
-    let b = e.b;
-    if is_settled(a) {
-        return is_settled(b);
-    }
-    false
-}
-
+// Rounds until both ends are settled; settled means agreed (exchange/specs/Demand3.antt, `agrees`).
 fn settle(start: Ends) -> Ends {
     let mut e = start;
     let mut left = ROUNDS;
-    while 0 < left && !both_settled(e) {
+    while 0 < left && !exchange::settled(e.a, e.b) {
         e = round(e);
         left -= 1;
     }

@@ -12,8 +12,8 @@ abbrev μ-loop : tie.MeasureT-loop
 loop-holds : tie.Need-loop-holds Inv-loop μ-loop
 loop-holds c = tt
 
-both-settled-requires : tie.Need-both-settled-requires Inv-loop μ-loop
-both-settled-requires c κs = search needs
+settled-requires : tie.Need-settled-requires Inv-loop μ-loop
+settled-requires c κs = search needs
 
 round-requires : tie.Need-round-requires Inv-loop μ-loop
 round-requires c κs = search needs
@@ -40,7 +40,7 @@ settle-spec =
     Inv-loop
     μ-loop
     loop-holds
-    both-settled-requires
+    settled-requires
     round-requires
     sub-left
     loop-less
