@@ -22,7 +22,8 @@ use Rattle.port.proofs.Fresh.{Alike, fresh-alike, runs-alike, fresh-kept, fresh
 use Rattle.port.proofs.Standing.{created-runs, created-single, created-fresh, created-stands}
 use Rattle.card.specs.declared.Card.{Card}
 use Rattle.card.specs.Card.{kept, created, peerGone, flagged}
-use Rattle.card.specs.Calls.{flag, after, eventNumber}
+use Rattle.port.specs.Replies.{eventReply}
+use Rattle.card.specs.Calls.{flag, after}
 use Rattle.card.specs.Sound.{SoundCard}
 use Rattle.card.specs.Reachable.{Creation, cardOf}
 use Rattle.card.proofs.Reachable.{call-sound, reachable-sound}
@@ -146,7 +147,7 @@ created-started x = by (settingsValid (x .parameters)) refl (x .done)
     port : Port
     port = createdPort (x .versions) (x .switches) (x .parameters)
 
-    by : (b : Bool) → settingsValid (x .parameters) ≡ b → eventNumber ((if b then made port else refused InvalidSetting blankPort) .answer) ≡ 0
+    by : (b : Bool) → settingsValid (x .parameters) ≡ b → eventReply ((if b then made port else refused InvalidSetting blankPort) .answer) .number ≡ 0
         → JustStarted (kept emptyLog (if b then made port else refused InvalidSetting blankPort) .card)
     by true k e =
         record {
