@@ -15,8 +15,8 @@ use Rattle.port.specs.declared.Event.{Event}
 use Rattle.port.specs.Replies.{eventReply}
 use Rattle.port.specs.PortEvents.{inOrder, refused, createdPort, blankPort, settingsValid, made}
 use Rattle.port.specs.PortEvents as events
-use Rattle.port.specs.Handling as handling
-use Rattle.port.proofs.Standing.{Standing, handled-stands, flagged-stands, gone-stands, setting-stands, created-stands}
+use Rattle.handling.specs.Handling as handling
+use Rattle.handling.proofs.Standing.{Standing, handled-stands, flagged-stands, gone-stands, setting-stands, created-stands}
 use Rattle.card.specs.declared.Card.{Card}
 use Rattle.card.specs.Card.{kept, created, handled, peerGone, flagged, changedSetting, taken}
 use Rattle.card.specs.Sound.{SoundCard}

@@ -36,8 +36,8 @@ use Rattle.port.specs.Replies.{bit, eventReply, writtenReply}
 use Rattle.port.specs.Writing as writing
 use Rattle.port.specs.PortEvents.{listed, inOrder, refused, unchanged, event, createdPort, blankPort, settingsValid, made, flagNotice, flagSet, freshPort, settingChanged, setTo, changedFeature}
 use Rattle.port.specs.PortEvents as events
-use Rattle.port.specs.Handling.{frameEvent, accepted, given}
-use Rattle.port.specs.Handling as handling
+use Rattle.handling.specs.Handling.{frameEvent, accepted, given}
+use Rattle.handling.specs.Handling as handling
 use Rattle.card.specs.declared.Card.{Card}
 use Rattle.card.specs.declared.Taken.{Taken}
 use Rattle.card.specs.declared.Took.the-variants as took

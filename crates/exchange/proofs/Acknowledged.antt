@@ -14,8 +14,8 @@ use Rattle.octets.specs.Laws.{and-right}
 use Rattle.parameters.specs.declared.Feature.{Feature}
 use Rattle.feature.specs.declared.Outcome.{Outcome}
 use Rattle.feature.specs.State.{next}
-use Rattle.port.specs.Handling.{Message}
-use Rattle.port.proofs.Tests.{is-same, or-cases}
+use Rattle.handling.specs.Handling.{Message}
+use Rattle.handling.proofs.Tests.{is-same, or-cases}
 use Rattle.exchange.specs.Rounds.{left, right, Call, refused, writes, handles, ruled, alone}
 use Rattle.exchange.proofs.Core.{Settings, advertised, Machine, Core, message, changed, synced, marked, sent, features, started, gated, recv}
 use Rattle.exchange.proofs.Outcomes.{version, lower-of-two, error-final, outcome-final, same-oper}

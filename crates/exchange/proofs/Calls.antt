@@ -21,8 +21,8 @@ use Rattle.port.specs.declared.Answer.the-variants as answer
 use Rattle.port.specs.Parts.{running}
 use Rattle.port.specs.Writing.{frame, written, output}
 use Rattle.port.specs.PortEvents.{refused, listed, inOrder, completed}
-use Rattle.port.specs.Handling.{message, once, steps1to4, frameEvent, accepted, given}
-use Rattle.port.specs.Handling as handling
+use Rattle.handling.specs.Handling.{message, once, steps1to4, frameEvent, accepted, given}
+use Rattle.handling.specs.Handling as handling
 use Rattle.port.specs.Sound.{SoundPort}
 use Rattle.card.specs.declared.Card.{Card}
 use Rattle.card.specs.Card.{kept, handled}

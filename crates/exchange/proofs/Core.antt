@@ -10,7 +10,7 @@ use Rattle.feature.specs.declared.State.{State}
 use Rattle.feature.specs.Outcome.{Received, outcome}
 use Rattle.feature.specs.State.{next, flags, fresh}
 use Rattle.port.specs.Parts.{some}
-use Rattle.port.specs.Handling.{Message}
+use Rattle.handling.specs.Handling.{Message}
 use Rattle.exchange.specs.Rounds.{Side}
 
 -- what an end is set to: control's highest version, and each feature's with its setting

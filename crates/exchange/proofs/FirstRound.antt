@@ -10,10 +10,10 @@ use Rattle.parameters.specs.declared.Feature.the-variants.{Groups, Flow, Applic
 use Rattle.feature.specs.declared.Reason.the-variants.{NoPeerYet}
 use Rattle.feature.specs.Outcome.{withoutPeer}
 use Rattle.feature.specs.State.{freshAt, fresh}
-use Rattle.port.specs.Handling.{Message}
+use Rattle.handling.specs.Handling.{Message}
 use Rattle.exchange.specs.Rounds.{Side}
 use Rattle.exchange.proofs.Core.{Settings, advertised, Core, message, bump, pending, sent, freshMachine, freshMachines, started, gated, recv}
-use Rattle.port.proofs.Tests.{some-false}
+use Rattle.handling.proofs.Tests.{some-false}
 use Rattle.exchange.proofs.Numbers.{Begun, Done, begun-handled, done-stays, begun-skipped, done-skipped}
 use Rattle.exchange.proofs.Stages.{Fit, advertises, Bound, Version, bound-of, quiet-none, version-next, After0, After1}
 

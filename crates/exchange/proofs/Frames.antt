@@ -23,7 +23,7 @@ use Rattle.feature.specs.Outcome.{Received}
 use Rattle.feature.specs.State.{value, subTlv}
 use Rattle.port.specs.declared.Port.{Port}
 use Rattle.port.specs.Writing.{controlValue, subTlvs, frame}
-use Rattle.port.specs.Handling.{hasOf, message}
+use Rattle.handling.specs.Handling.{hasOf, message}
 use Rattle.port.specs.Sound.{SoundState, SoundPort}
 use Rattle.exchange.proofs.Core as core
 use Rattle.exchange.proofs.View.{settings, view}

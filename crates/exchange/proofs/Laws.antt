@@ -19,7 +19,7 @@ use Rattle.feature.specs.RulesLaws.{judged-oper}
 use Rattle.feature.specs.State.{acknowledged}
 use Rattle.port.specs.Sound.{SoundParameters}
 use Rattle.exchange.specs.Rounds.{Side, ruled}
-use Rattle.port.proofs.Tests.{or-cases}
+use Rattle.handling.proofs.Tests.{or-cases}
 use Rattle.exchange.proofs.Outcomes.{judged-error, alone-absent, alone-met}
 
 -- one readable sub-TLV: Oper becomes the lower of the two Max, whatever was received

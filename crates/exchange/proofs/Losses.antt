@@ -9,7 +9,7 @@ use Rattle.feature.specs.declared.Peer.{Peer}
 use Rattle.feature.specs.declared.Outcome.{Outcome}
 use Rattle.feature.specs.Outcome.{noPeer, outcome}
 use Rattle.feature.specs.State.{freshAt}
-use Rattle.port.specs.Handling.{Message}
+use Rattle.handling.specs.Handling.{Message}
 use Rattle.port.specs.Sound.{SoundParameters}
 use Rattle.exchange.specs.Rounds.{left, right, Call, refused, writes, handles, Side}
 use Rattle.exchange.proofs.Core.{Settings, Machine, Core, written, message, synced, marked, handled, freshMachine, started, gated, recv}

@@ -10,9 +10,9 @@ use Rattle.parameters.specs.declared.Feature.{Feature}
 use Rattle.feature.specs.declared.Outcome.{Outcome}
 use Rattle.feature.specs.Outcome.{outcome}
 use Rattle.feature.specs.State.{next}
-use Rattle.port.specs.Handling.{Message}
+use Rattle.handling.specs.Handling.{Message}
 use Rattle.exchange.proofs.Core.{Settings, advertised, Machine, Core, changed, synced, marked, handled, bump, pending, sent, features, gated}
-use Rattle.port.proofs.Tests.{and-known, and-false-of, some-false, none-of}
+use Rattle.handling.proofs.Tests.{and-known, and-false-of, some-false, none-of}
 
 -- ---- one feature, whose sub-TLV changes or not
 

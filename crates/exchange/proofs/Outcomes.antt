@@ -20,7 +20,7 @@ use Rattle.feature.specs.State.{flags}
 use Rattle.port.specs.Sound.{SoundParameters}
 use Rattle.exchange.specs.Rounds.{Side, receivedAlone, ruled}
 use Rattle.exchange.proofs.Core.{written, changed}
-use Rattle.port.proofs.Tests.{is-same, beq-same}
+use Rattle.handling.proofs.Tests.{is-same, beq-same}
 use Rattle.feature.specs.RulesLaws.{judgedBy, judged-by, judged-oper, judged-peer}
 
 -- the version that the two settings lead to, if the peer advertises

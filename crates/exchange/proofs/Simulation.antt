@@ -8,8 +8,8 @@ use Rattle.port.specs.declared.Port.{Port}
 use Rattle.port.specs.Parts.{running}
 use Rattle.port.specs.PortEvents.{completed}
 use Rattle.port.specs.Writing as writing
-use Rattle.port.specs.Handling.{Message, once}
-use Rattle.port.specs.Handling as handling
+use Rattle.handling.specs.Handling.{Message, once}
+use Rattle.handling.specs.Handling as handling
 use Rattle.port.specs.Sound.{SoundPort}
 use Rattle.card.specs.declared.Card.{Card}
 use Rattle.card.specs.Card.{handled}
@@ -17,7 +17,7 @@ use Rattle.exchange.specs.Rounds.{left, right, write, frame, Call, refus
 use Rattle.exchange.proofs.Core.{Settings, Core, message, recv}
 use Rattle.exchange.proofs.View.{settings, view, Kept, runs-same, view-once, kept-once}
 use Rattle.exchange.proofs.Calls.{write-leaves, refused-stays, delivered-port}
-use Rattle.port.proofs.Soundness.{once-kept, completed-sound}
+use Rattle.handling.proofs.Soundness.{once-kept, completed-sound}
 use Rattle.exchange.proofs.Pairs.{Pair, given, step, run}
 
 -- a sound port that runs with the settings `s`, while several neighbours are not flagged

@@ -11,7 +11,7 @@ use Rattle.port.specs.Parts.{some}
 use Rattle.port.specs.Sound.{SoundParameters}
 use Rattle.exchange.specs.Rounds.{ruled, alone}
 use Rattle.exchange.proofs.Core.{Settings, advertised, Machine, Core, written, message, changed, synced, marked, gated, recv}
-use Rattle.port.proofs.Tests.{some-false}
+use Rattle.handling.proofs.Tests.{some-false}
 use Rattle.exchange.proofs.Outcomes.{version, version-le, lower-of-two, error-final, outcome-final, unchanged}
 use Rattle.exchange.proofs.Numbers.{All-synced, Begun, Asked, Answered, Done, Quiet, new-out, feature-is, done}
 

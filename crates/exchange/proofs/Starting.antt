@@ -17,9 +17,9 @@ use Rattle.port.specs.declared.Answer.the-variants.{Done}
 use Rattle.port.specs.Parts.{featureOf, withControl, withFeatures, some, flagOf, withFlag, running}
 use Rattle.port.specs.PortEvents.{withSeq, unsynced, sent, freshParts, freshPort, refused, unchanged, event, made, createdPort, blankPort, settingsValid, restarts, flagNotice, flagSet}
 use Rattle.port.specs.PortEvents as events
-use Rattle.port.proofs.Tests.{beq-not}
-use Rattle.port.proofs.Fresh.{Alike, fresh-alike, runs-alike, fresh-kept, fresh-again}
-use Rattle.port.proofs.Standing.{created-runs, created-single, created-fresh, created-stands}
+use Rattle.handling.proofs.Tests.{beq-not}
+use Rattle.handling.proofs.Fresh.{Alike, fresh-alike, runs-alike, fresh-kept, fresh-again}
+use Rattle.handling.proofs.Standing.{created-runs, created-single, created-fresh, created-stands}
 use Rattle.card.specs.declared.Card.{Card}
 use Rattle.card.specs.Card.{kept, created, peerGone, flagged}
 use Rattle.port.specs.Replies.{eventReply}

@@ -16,7 +16,7 @@ use Rattle.feature.specs.State as state
 use Rattle.exchange.specs.Rounds.{Side}
 use Rattle.exchange.proofs.Core as core
 use Rattle.exchange.proofs.Core.{machineOf}
-use Rattle.port.proofs.Tests.{is-same}
+use Rattle.handling.proofs.Tests.{is-same}
 
 -- ---- a feature's written sub-TLV differs exactly if Oper or Error does
 

@@ -20,7 +20,7 @@ use Rattle.port.specs.declared.Versions.{Versions}
 use Rattle.port.specs.Parts.{maxOf}
 use Rattle.port.specs.Writing as writing
 use Rattle.port.specs.PortEvents as events
-use Rattle.port.specs.Handling as handling
+use Rattle.handling.specs.Handling as handling
 use Rattle.card.specs.declared.Card.{Card}
 use Rattle.card.specs.Card as card
 use Rattle.exchange.specs.Rounds as ends

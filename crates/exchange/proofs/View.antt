@@ -11,7 +11,7 @@ use Rattle.port.specs.declared.Port.{Port}
 use Rattle.port.specs.Parts.{featureOf, withControl, running}
 use Rattle.port.specs.PortEvents.{withSeq, unsynced, step5, completed}
 use Rattle.port.specs.PortEvents as events
-use Rattle.port.specs.Handling.{Message, met, exchanged, once}
+use Rattle.handling.specs.Handling.{Message, met, exchanged, once}
 use Rattle.exchange.specs.Rounds.{sideOf}
 use Rattle.exchange.proofs.Core as core
 use Rattle.exchange.proofs.Core.{Settings, Core, machineOf}

@@ -28,7 +28,7 @@ use Rattle.port.specs.Parts.{featureOf, three, withControl}
 use Rattle.port.specs.Replies.{bit, eventReply}
 use Rattle.port.specs.Settled.{settled}
 use Rattle.port.specs.PortEvents as events
-use Rattle.port.specs.Handling as handling
+use Rattle.handling.specs.Handling as handling
 use Rattle.card.specs.declared.Card.{Card}
 use Rattle.card.specs.declared.Handled.{Handled}
 use Rattle.card.specs.Card as card

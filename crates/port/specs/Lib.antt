@@ -3,8 +3,6 @@ pub mod Writing
 pub mod WritingLaws
 pub mod PortEvents
 pub mod Replies
-pub mod Handling
 pub mod Settled
 pub mod Sound
 pub mod EventLaws
-pub mod HandlingLaws

@@ -5,7 +5,6 @@ use notices::Kind;
 use tlv::Refusal;
 
 pub mod events;
-pub mod handling;
 pub mod writing;
 
 // The four flags of a port.

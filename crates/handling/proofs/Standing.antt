@@ -1,0 +1,351 @@
+-- Every event keeps a port sound and, while it is stopped, in the fresh stopped state. Assumes nothing.
+use Prim.Native.Nat.{ℕ, _<_, _≤_}
+use native.Mathlib.Omega.{arith}
+use native.Mathlib.Nat.{le-refl}
+use mathlib.Core.Path.{_≡_, refl, sym, ap, _∙_}
+use mathlib.Core.Bool.{Bool, true, false, not, Bool·beq, false≢true}
+use mathlib.Core.List.{List}
+use lib.ListN.{length}
+use lib.Dec.{lit<}
+use Rattle.octets.specs.Words.{if_then_else_, _below_, _is_}
+use Rattle.octets.specs.Laws.{and-left, and-right}
+use Rattle.tlv.specs.declared.Refusal.the-variants.{NotRunning, SeveralNeighbours, InvalidSetting, UnknownFeature}
+use Rattle.tlv.specs.declared.Contents.{Contents}
+use Rattle.tlv.specs.declared.Reading.{Reading}
+use Rattle.tlv.specs.declared.Reading.the-variants.{Refused, Accepted}
+use Rattle.tlv.specs.Layout.{readFrame}
+use Rattle.parameters.specs.declared.Feature.{Feature}
+use Rattle.parameters.specs.declared.Feature.the-variants.{Groups, Flow, Applications}
+use Rattle.parameters.specs.Parameters.{valid, localValues, validLocal, plain, stored, content}
+use Rattle.parameters.specs.FeatureLaws.{valid-length}
+use Rattle.parameters.specs.PlainLaws.{length-plain, local-plain}
+use Rattle.parameters.specs.StoringLaws.{content-stored}
+use Rattle.feature.specs.declared.Setting.{Setting}
+use Rattle.feature.specs.declared.Switches.{Switches}
+use Rattle.feature.specs.declared.Outcome.{Outcome}
+use Rattle.feature.specs.declared.State.{State}
+use Rattle.feature.specs.Outcome.{lower, judged}
+use Rattle.feature.specs.State.{next, freshAt, fresh, stopped, settingOf, sameSetting, judgedAgain, reset}
+use Rattle.port.specs.declared.Flag.{Flag}
+use Rattle.port.specs.declared.Flag.the-variants.{Admin, Receive, Transmit, Several}
+use Rattle.port.specs.declared.Port.{Port}
+use Rattle.port.specs.declared.Raised.{Raised}
+use Rattle.port.specs.declared.Raised.the-variants as raised
+use Rattle.port.specs.declared.Versions.{Versions}
+use Rattle.port.specs.Parts.{featureOf, maxOf, withControl, withFeatures, flagOf, withFlag, running}
+use Rattle.port.specs.PortEvents.{sent, freshControl, freshParts, freshPort, event, unchanged, refused, started, createdPort, settingsValid, restarts, flagNotice, flagSet, flagged, peerGone, step5, completed, withFeature, withSetting, settingChanged, setTo, changedFeature, changedSetting}
+use Rattle.handling.specs.Handling.{Message, message, twice, met, exchanged, once, steps1to4, frameEvent, accepted, given, handled}
+use Rattle.port.specs.Sound.{SoundSetting, SoundState, SoundPort}
+use Rattle.handling.proofs.Tests.{beq-not, each-true}
+use Rattle.handling.proofs.Soundness.{Octets, sound-stored, adopts-none, judged-sound, next-small, port-sound, sent-sound, completed-sound, steps-sound}
+use Rattle.handling.proofs.Fresh.{state-again, fresh-sound, sent-alike, runs-alike, fresh-kept, fresh-same, fresh-again}
+
+pub record Standing (p : Port) : Type 0 where
+  pub sound : SoundPort p
+  pub stopped : running p ≡ false → freshPort p ≡ p
+
+running-stands : (p : Port) → SoundPort p → running p ≡ true → Standing p
+running-stands p h r = record { sound = h; stopped = λ e. absurd (false≢true (sym e ∙ r)) }
+
+fresh-stands : (p : Port) → SoundPort p → Standing (freshPort p)
+fresh-stands p h = record { sound = fresh-kept p h; stopped = λ e. fresh-again p }
+
+completed-runs : (before after : Port) → running (completed before after) ≡ running after
+completed-runs before after = runs-alike (step5 before after) (completed before after) (sent-alike (step5 before after))
+
+-- ---- frames
+
+module _ (p : Port) where
+  once-runs : (m : Message) → running (once m p) ≡ running p
+  unfolding once exchanged
+  once-runs m = by (m .oper is lower (p .control .max) (m .max))
+    where
+      by : (b : Bool) → running (if b then exchanged (lower (p .control .max) (m .max)) m p else withControl p (met (lower (p .control .max) (m .max)) (p .control))) ≡ running p
+      by true = refl
+      by false = refl
+
+  steps-run : (o : List ℕ) (c : Contents) → running (steps1to4 o c p) ≡ running p
+  unfolding steps1to4 twice
+  steps-run o c = by (1 below c .control .count)
+    where
+      by : (b : Bool) → running (if b then twice p else once (message o c) p) ≡ running p
+      by true = refl
+      by false = once-runs (message o c)
+
+pub handled-stands : (p : Port) (o : List ℕ) → Octets o → Standing p → Standing (handled p o .port)
+unfolding handled given accepted frameEvent
+handled-stands p o k h = by (running p) (p .several) (readFrame o) refl
+  where
+    by : (a b : Bool) (x : Reading) → running p ≡ a
+        → Standing ((if not a then refused NotRunning p else if b then refused SeveralNeighbours p else given o x p) .port)
+    by false b x r = h
+    by true true x r = h
+    by true false (Refused why) r = h
+    by true false (Accepted c) r =
+        running-stands (completed p (steps1to4 o c p)) (completed-sound p (steps1to4 o c p) (steps-sound o c p k (h .sound)))
+        (completed-runs p (steps1to4 o c p) ∙ steps-run p o c ∙ r)
+
+-- ---- flags and peer gone
+
+module _ (p : Port) (on : Bool) where
+  flag-sound : (flag : Flag) → SoundPort p → SoundPort (withFlag p flag on)
+  flag-sound Admin h = port-sound (withFlag p Admin on) (h .control) (h .features Groups) (h .features Flow) (h .features Applications)
+  flag-sound Receive h = port-sound (withFlag p Receive on) (h .control) (h .features Groups) (h .features Flow) (h .features Applications)
+  flag-sound Transmit h = port-sound (withFlag p Transmit on) (h .control) (h .features Groups) (h .features Flow) (h .features Applications)
+  flag-sound Several h = port-sound (withFlag p Several on) (h .control) (h .features Groups) (h .features Flow) (h .features Applications)
+
+  -- where a flag does not restart the port, it runs exactly if it did
+  stays : (flag : Flag) → restarts flag on p (withFlag p flag on) ≡ false → running p ≡ running (withFlag p flag on)
+  unfolding restarts
+  stays Admin e = beq-not (running p) (running (withFlag p Admin on)) e
+  stays Receive e = beq-not (running p) (running (withFlag p Receive on)) e
+  stays Transmit e = beq-not (running p) (running (withFlag p Transmit on)) e
+  stays Several e = refl
+
+-- the fresh state of a stopped port
+abbrev still : Port → Port
+still p = withFeatures (freshParts p) (λ f. stopped (featureOf (freshParts p) f))
+
+fresh-still : (p : Port) (b : Bool) → running p ≡ b → b ≡ false → freshPort p ≡ still p
+unfolding freshPort
+fresh-still p true r e = absurd (false≢true (sym e))
+fresh-still p false r e = rw r refl
+
+still-flag : (p : Port) (flag : Flag) (on : Bool) → still (withFlag p flag on) ≡ withFlag (still p) flag on
+still-flag p Admin on = refl
+still-flag p Receive on = refl
+still-flag p Transmit on = refl
+still-flag p Several on = refl
+
+flag-stands : (flag : Flag) (on : Bool) (p : Port) → Standing p → Standing (flagSet flag on p)
+unfolding flagSet
+flag-stands flag on p h = by (restarts flag on p (withFlag p flag on)) refl
+  where
+    q-still : restarts flag on p (withFlag p flag on) ≡ false → running (withFlag p flag on) ≡ false → freshPort (withFlag p flag on) ≡ withFlag p flag on
+    q-still e r =
+        let s : running p ≡ false = stays p on flag e ∙ r in
+        fresh-still (withFlag p flag on) _ refl r
+        ∙ still-flag p flag on
+        ∙ ap (λ (q : Port). withFlag q flag on) (sym (fresh-still p _ refl s) ∙ h .stopped s)
+
+    by : (b : Bool) → restarts flag on p (withFlag p flag on) ≡ b → Standing (if b then freshPort (withFlag p flag on) else withFlag p flag on)
+    by true e = fresh-stands (withFlag p flag on) (flag-sound p on flag (h .sound))
+    by false e = record { sound = flag-sound p on flag (h .sound); stopped = q-still e }
+
+pub flagged-stands : (flag : Flag) (on : Bool) (p : Port) → Standing p → Standing (flagged flag on p .port)
+unfolding flagged
+flagged-stands flag on p h = by (Bool·beq (flagOf p flag) on)
+  where
+    by : (b : Bool) → Standing ((if b then unchanged p else event (flagNotice flag on) p (flagSet flag on p)) .port)
+    by true = h
+    by false = flag-stands flag on p h
+
+pub gone-stands : (p : Port) → Standing p → Standing (peerGone p .port)
+unfolding peerGone
+gone-stands p h = by (running p) _
+  where
+    by : (b : Bool) (x : Raised) → Standing ((if not b then refused NotRunning p else event x p (freshPort p)) .port)
+    by false x = h
+    by true x = fresh-stands p (h .sound)
+
+-- ---- setting changes
+
+-- valid local settings are held soundly
+pub setting-sound : (f : Feature) (w : Switches) (o : List ℕ) → validLocal f o ≡ true → SoundSetting f (settingOf f w o)
+unfolding validLocal
+setting-sound f w o e =
+    let v : valid f o ≡ true = and-left (valid f o) (localValues f o) e in
+    let n : length (plain f o) ≤ 96 = omega (arith, length-plain f o, valid-length f o v) in
+    let c : content (stored (plain f o)) ≡ plain f o = content-stored (plain f o) n in
+    record {
+      desired = sound-stored f o v;
+      local = ap (localValues f) c ∙ and-right (valid f (plain f o)) (localValues f (plain f o)) (local-plain f o ∙ e);
+    }
+
+module _ (f : Feature) (s : Setting) (k : SoundSetting f s) (x : State) (h : SoundState f x) where
+  -- no peer is held, as on a stopped port
+  with-setting-sound : x .outcome .peer .held ≡ false → SoundState f (withSetting x s)
+  with-setting-sound n =
+      record {
+        max = h .max;
+        oper = h .oper;
+        sequence = h .sequence;
+        setting = k;
+        peer = h .peer;
+        adopts = h .adopts ∙ adopts-none (x .setting) (x .outcome .peer) n ∙ sym (adopts-none s (x .outcome .peer) n);
+        withheld = λ e. n;
+      }
+
+  -- Advertise stays
+  judgedAgain-sound : (seq : ℕ) → x .setting .advertise ≡ s .advertise
+      → SoundState f (record { max = x .max; setting = s; outcome = judgedAgain f s (x .outcome); syncd = x .syncd; sequence = x .sequence })
+  unfolding judgedAgain
+  judgedAgain-sound seq same = by (s .advertise) (x .outcome .peer .held) refl refl
+    where
+      left : Bool → Outcome
+      left mode = record { reason = x .outcome .reason; oper = x .outcome .oper; error = x .outcome .error; mode = mode; peer = x .outcome .peer; adopts = false }
+
+      by : (a b : Bool) → s .advertise ≡ a → x .outcome .peer .held ≡ b
+          → SoundState f
+          (record {
+            max = x .max;
+            setting = s;
+            outcome = if not a then left (s .enable) else if b then judged f s (x .outcome .oper) (x .outcome .peer) else left (x .outcome .mode);
+            syncd = x .syncd;
+            sequence = x .sequence;
+          })
+      by false b a e =
+          let n : x .outcome .peer .held ≡ false = h .withheld (same ∙ a) in
+          record { max = h .max; oper = h .oper; sequence = h .sequence; setting = k; peer = h .peer; adopts = sym (adopts-none s (x .outcome .peer) n); withheld = λ e. n }
+      by true true a e =
+          let o = judged-sound f (x .max) s k (x .outcome .oper) (h .oper) (x .outcome .peer) e (h .peer .some e) in
+          record {
+            max = h .max;
+            oper = o .oper;
+            sequence = h .sequence;
+            setting = k;
+            peer = o .peer;
+            adopts = o .adopts;
+            withheld = λ e. absurd (false≢true (sym e ∙ a));
+          }
+      by true false a e =
+          record { max = h .max; oper = h .oper; sequence = h .sequence; setting = k; peer = h .peer; adopts = sym (adopts-none s (x .outcome .peer) e); withheld = λ _. e }
+
+  reset-sound : (seq : ℕ) → SoundState f (reset f seq s x)
+  unfolding reset
+  reset-sound seq = by (Bool·beq (x .setting .advertise) (s .advertise)) refl
+    where
+      by : (b : Bool) → Bool·beq (x .setting .advertise) (s .advertise) ≡ b
+          → SoundState f
+          (if b then record { max = x .max; setting = s; outcome = judgedAgain f s (x .outcome); syncd = x .syncd; sequence = x .sequence }
+          else freshAt (next seq) (x .max) s)
+      by true e = judgedAgain-sound seq (beq-not (x .setting .advertise) (s .advertise) (ap not e))
+      by false e = fresh-sound (next seq) (x .max) s f (h .max) (next-small seq) k
+
+feature-kept : (p : Port) (f : Feature) (x : State) → SoundPort p → SoundState f x → SoundPort (withFeature p f x)
+feature-kept p Groups x h k = port-sound (withFeature p Groups x) (h .control) k (h .features Flow) (h .features Applications)
+feature-kept p Flow x h k = port-sound (withFeature p Flow x) (h .control) (h .features Groups) k (h .features Applications)
+feature-kept p Applications x h k = port-sound (withFeature p Applications x) (h .control) (h .features Groups) (h .features Flow) k
+
+feature-runs : (p : Port) (f : Feature) (x : State) → running (withFeature p f x) ≡ running p
+feature-runs p Groups x = refl
+feature-runs p Flow x = refl
+feature-runs p Applications x = refl
+
+module _ (p : Port) (h : Standing p) where
+  -- a stopped port holds no peer
+  none-held : (f : Feature) → running p ≡ false → featureOf p f .outcome .peer .held ≡ false
+  unfolding freshAt
+  none-held f r = ap (λ (q : Port). featureOf q f .outcome .peer .held) (sym (h .stopped r) ∙ fresh-still p _ refl r) ∙ by f
+    where
+      without : (x : State) (b : Bool) → x .setting .advertise ≡ b → fresh (x .max) (x .setting) .outcome .peer .held ≡ false
+      without x true a = rw a refl
+      without x false a = rw a refl
+
+      by : (f : Feature) → featureOf (still p) f .outcome .peer .held ≡ false
+      by Groups = without (p .groups) _ refl
+      by Flow = without (p .flow) _ refl
+      by Applications = without (p .applications) _ refl
+
+  set-stands : (f : Feature) (s : Setting) → SoundSetting f s → Standing (settingChanged f s p)
+  unfolding settingChanged
+  set-stands f s k = by (running p) refl
+    where
+      by : (b : Bool) → running p ≡ b
+          → Standing (if b then completed p (withFeature p f (reset f (p .control .seq) s (featureOf p f))) else freshPort (withFeature p f (withSetting (featureOf p f) s)))
+      by true r =
+          let x : State = reset f (p .control .seq) s (featureOf p f) in
+          let q : Port = withFeature p f x in
+          running-stands (completed p q)
+          (completed-sound p q (feature-kept p f x (h .sound) (reset-sound f s k (featureOf p f) (h .sound .features f) (p .control .seq))))
+          (completed-runs p q ∙ feature-runs p f x ∙ r)
+      by false r =
+          let x : State = withSetting (featureOf p f) s in
+          fresh-stands (withFeature p f x)
+          (feature-kept p f x (h .sound) (with-setting-sound f s k (featureOf p f) (h .sound .features f) (none-held f r)))
+
+  changed-stands : (f : Feature) (w : Switches) (o : List ℕ) → Standing (changedFeature f w o p .port)
+  unfolding changedFeature setTo
+  changed-stands f w o = by (validLocal f o) (sameSetting (featureOf p f .setting) (settingOf f w o)) refl
+    where
+      by : (a b : Bool) → validLocal f o ≡ a
+          → Standing ((if a then if b then unchanged p else event raised.Nothing p (settingChanged f (settingOf f w o) p) else refused InvalidSetting p) .port)
+      by false b v = h
+      by true true v = h
+      by true false v = set-stands f (settingOf f w o) (setting-sound f w o v)
+
+  pub setting-stands : (number : ℕ) (w : Switches) (o : List ℕ) → Standing (changedSetting number w o p .port)
+  unfolding changedSetting
+  setting-stands number w o = by (number is 2) (number is 3) (number is 4)
+    where
+      by : (a b c : Bool)
+          → Standing
+          ((if a then changedFeature Groups w o p
+          else if b then changedFeature Flow w o p
+          else if c then changedFeature Applications w o p
+          else refused UnknownFeature p) .port)
+      by true b c = changed-stands Groups w o
+      by false true c = changed-stands Flow w o
+      by false false true = changed-stands Applications w o
+      by false false false = h
+
+-- ---- creation
+
+module _ (v : Versions) (w : Feature → Switches) (o : Feature → List ℕ) where
+  bare-sound : (f : Feature) → maxOf v f < 256 → validLocal f (o f) ≡ true → SoundState f (fresh (maxOf v f) (settingOf f (w f) (o f)))
+  bare-sound f h k = fresh-sound 1 (maxOf v f) (settingOf f (w f) (o f)) f h (lit< tt) (setting-sound f (w f) (o f) k)
+
+  -- the port before the send rule
+  abbrev unsent : Port
+  unsent =
+      record {
+        admin = true;
+        receive = true;
+        transmit = true;
+        several = false;
+        control = freshControl (v .control);
+        groups = fresh (v .groups) (settingOf Groups (w Groups) (o Groups));
+        flow = fresh (v .flow) (settingOf Flow (w Flow) (o Flow));
+        applications = fresh (v .applications) (settingOf Applications (w Applications) (o Applications));
+      }
+
+  pub created-runs : running (createdPort v w o) ≡ true
+  unfolding started
+  created-runs = runs-alike unsent (createdPort v w o) (sent-alike unsent)
+
+  pub created-single : createdPort v w o .several ≡ false
+  unfolding started
+  created-single = sent-alike unsent .several
+
+  -- the port is created in its fresh state
+  pub created-fresh : freshPort (createdPort v w o) ≡ createdPort v w o
+  unfolding started freshPort
+  created-fresh =
+      fresh-same unsent (createdPort v w o) (sent-alike unsent)
+      ∙ ap sent
+      (λ i. record {
+        admin = true;
+        receive = true;
+        transmit = true;
+        several = false;
+        control = freshControl (v .control);
+        groups = state-again (v .groups) (settingOf Groups (w Groups) (o Groups)) i;
+        flow = state-again (v .flow) (settingOf Flow (w Flow) (o Flow)) i;
+        applications = state-again (v .applications) (settingOf Applications (w Applications) (o Applications)) i;
+      })
+
+  module _ (control : v .control < 256) (features : (f : Feature) → maxOf v f < 256) (good : settingsValid o ≡ true) where
+    valid-at : (f : Feature) → validLocal f (o f) ≡ true
+    unfolding settingsValid
+    valid-at f = each-true (λ f. validLocal f (o f)) good f
+
+    unsent-sound : SoundPort unsent
+    unsent-sound =
+        port-sound unsent (record { max = control; oper = le-refl (v .control); seq = lit< tt; ack = lit< tt; rcvd = lit< tt })
+        (bare-sound Groups (features Groups) (valid-at Groups))
+        (bare-sound Flow (features Flow) (valid-at Flow))
+        (bare-sound Applications (features Applications) (valid-at Applications))
+
+    pub created-stands : Standing (createdPort v w o)
+    unfolding started
+    created-stands = running-stands (createdPort v w o) (sent-sound unsent unsent-sound) created-runs

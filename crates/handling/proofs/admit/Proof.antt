@@ -1,0 +1,23 @@
+-- `handling::admit` meets its contract. Assumes nothing.
+use Rattle.handling.specs.HandlingLaws.{admit-stopped, admit-several, admit-read}
+use borrow.Author.Needs.{needs}
+use Rattle.handling.proofs.admit.Statement.{statement}
+use Rattle.handling.proofs.admit.Tie as tie
+
+running-requires : tie.Need-running-requires
+running-requires c κs = search needs
+
+returns : tie.Need-returns
+returns c = search admit-stopped
+
+returns-2 : tie.Need-returns-2
+returns-2 c = search admit-several
+
+read-requires : tie.Need-read-requires
+read-requires c κs = search needs
+
+returns-3 : tie.Need-returns-3
+returns-3 c = search admit-read
+
+pub admit-spec : {M : Type 1} → statement M
+admit-spec = tie.close (tie.spec running-requires returns returns-2 read-requires returns-3)

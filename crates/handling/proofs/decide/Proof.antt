@@ -1,0 +1,84 @@
+-- `handling::decide` meets its contract. Assumes nothing.
+use Rattle.handling.specs.HandlingLaws.{decide-is}
+use borrow.Author.Needs.{needs}
+use Rattle.handling.proofs.decide.Statement.{statement}
+use Rattle.handling.proofs.decide.Tie as tie
+
+hear-requires : tie.Need-hear-requires
+hear-requires c κs = search needs
+
+turn-of-requires : tie.Need-turn-of-requires
+turn-of-requires c κs = search needs
+
+turn-of-requires-2 : tie.Need-turn-of-requires-2
+turn-of-requires-2 c κs = search needs
+
+turn-of-requires-3 : tie.Need-turn-of-requires-3
+turn-of-requires-3 c κs = search needs
+
+waits-requires : tie.Need-waits-requires
+waits-requires c κs = search needs
+
+waits-requires-2 : tie.Need-waits-requires-2
+waits-requires-2 c κs = search needs
+
+waits-requires-3 : tie.Need-waits-requires-3
+waits-requires-3 c κs = search needs
+
+count-requires : tie.Need-count-requires
+count-requires c κs = search needs
+
+same-control-requires : tie.Need-same-control-requires
+same-control-requires c κs = search needs
+
+changes-requires : tie.Need-changes-requires
+changes-requires c κs = search needs
+
+changes-requires-2 : tie.Need-changes-requires-2
+changes-requires-2 c κs = search needs
+
+changes-requires-3 : tie.Need-changes-requires-3
+changes-requires-3 c κs = search needs
+
+duplicate-notice-requires : tie.Need-duplicate-notice-requires
+duplicate-notice-requires c κs = search needs
+
+notice-requires : tie.Need-notice-requires
+notice-requires c κs = search needs
+
+notice-requires-2 : tie.Need-notice-requires-2
+notice-requires-2 c κs = search needs
+
+notice-requires-3 : tie.Need-notice-requires-3
+notice-requires-3 c κs = search needs
+
+returns : tie.Need-returns
+returns c =
+    decide-is _ _ _ (c .before .before .before .before .before .before .before .before .before .before .before .before .before .before .before .before .before .before .pre .1) (c .before .before .before .before .before .before .before .before .before .before .before .before .before .before .before .hear .ensures) (c .before .before .before .before .before .before .before .before .before .before .before .before .before .before .turn-of .ensures)
+    (c .before .before .before .before .before .before .before .before .before .before .before .before .before .turn-of2 .ensures) (c .before .before .before .before .before .before .before .before .before .before .before .before .turn-of3 .ensures) (c .before .before .before .before .before .before .before .before .before .before .before .waits .ensures)
+    (c .before .before .before .before .before .before .before .before .before .before .waits2 .ensures) (c .before .before .before .before .before .before .before .before .before .waits3 .ensures) (c .before .before .before .before .before .before .before .before .count .ensures)
+    (c .before .before .before .before .before .before .before .same-control .ensures) (c .before .before .before .before .before .before .changes .ensures) (c .before .before .before .before .before .changes2 .ensures)
+    (c .before .before .before .before .changes3 .ensures) (c .before .before .before .duplicate-notice .ensures) (c .before .before .notice .ensures)
+    (c .before .notice2 .ensures) (c .notice3 .ensures)
+
+pub decide-spec : {M : Type 1} → statement M
+decide-spec =
+    tie.close
+    (tie.spec
+    hear-requires
+    turn-of-requires
+    turn-of-requires-2
+    turn-of-requires-3
+    waits-requires
+    waits-requires-2
+    waits-requires-3
+    count-requires
+    same-control-requires
+    changes-requires
+    changes-requires-2
+    changes-requires-3
+    duplicate-notice-requires
+    notice-requires
+    notice-requires-2
+    notice-requires-3
+    returns)

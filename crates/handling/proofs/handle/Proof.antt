@@ -1,0 +1,42 @@
+-- `handling::handle` meets its contract. Assumes nothing.
+use Rattle.handling.specs.HandlingLaws.{handle-refused, handle-accepted, accepted-inside, accepted-runs}
+use borrow.Author.Needs.{needs}
+use Rattle.handling.proofs.handle.Statement.{statement}
+use Rattle.handling.proofs.handle.Tie as tie
+
+admit-requires : tie.Need-admit-requires
+admit-requires c κs = search needs
+
+enum-known-read : tie.Need-enum-known-read
+enum-known-read c = search needs
+
+refuse-requires : tie.Need-refuse-requires
+refuse-requires c κs = search needs
+
+returns : tie.Need-returns
+returns c = search handle-refused
+
+enum-known-read-2 : tie.Need-enum-known-read-2
+enum-known-read-2 c = search needs
+
+decide-requires : tie.Need-decide-requires
+decide-requires c κs = search (accepted-inside, accepted-runs)
+
+apply-requires : tie.Need-apply-requires
+apply-requires c κs = search accepted-inside
+
+returns-2 : tie.Need-returns-2
+returns-2 c = search handle-accepted
+
+pub handle-spec : {M : Type 1} → statement M
+handle-spec =
+    tie.close
+    (tie.spec
+    admit-requires
+    enum-known-read
+    refuse-requires
+    returns
+    enum-known-read-2
+    decide-requires
+    apply-requires
+    returns-2)

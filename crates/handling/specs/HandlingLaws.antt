@@ -1,0 +1,332 @@
+-- Handling a frame by its small part, decided first, and the port that is made of it: laws for each way out of the functions. Assumes
+-- nothing.
+use Prim.Native.Nat.{ℕ, _+_, _-_, _<_, _≤_}
+use native.Mathlib.Nat.{add-sub-cancel-left}
+use native.Mathlib.Omega.{arith}
+use mathlib.Core.Bool.{Bool, true, false, not, _&&_, _||_, Bool·beq}
+use mathlib.Core.Path.{_≡_, _∙_, refl, sym, ap}
+use mathlib.Core.List.{List, [], _∷_}
+use lib.ListN.{length, take, drop}
+use borrow.Author.Tests.{not-true, not-false, lt-ltb, le-ltb, eq-eqb, ne-eqb}
+use Rattle.octets.specs.Words.{if_then_else_, _below_, _is_}
+use Rattle.octets.specs.Octets.{at, number4, same, headed}
+use Rattle.tlv.specs.declared.Contents.{Contents}
+use Rattle.tlv.specs.declared.Found.{Found}
+use Rattle.tlv.specs.declared.Refusal.{Refusal}
+use Rattle.tlv.specs.declared.Refusal.the-variants.{NotRunning, SeveralNeighbours}
+use Rattle.tlv.specs.declared.Reading.{Reading}
+use Rattle.tlv.specs.declared.Reading.the-variants.{Refused, Accepted}
+use Rattle.tlv.specs.Promises.{Inside, ReadPromise}
+use Rattle.tlv.specs.Layout.{readFrame, valueOf}
+use Rattle.parameters.specs.declared.Feature.{Feature}
+use Rattle.parameters.specs.declared.Feature.the-variants.{Groups, Flow, Applications}
+use Rattle.parameters.specs.declared.Parameters.{Parameters}
+use Rattle.parameters.specs.Parameters.{featureNumber, content}
+use Rattle.feature.specs.declared.Setting.{Setting}
+use Rattle.feature.specs.declared.State.{State}
+use Rattle.feature.specs.declared.steps.Course.{Course}
+use Rattle.feature.specs.declared.steps.Course.the-variants.{Twice, OtherVersion, Exchange}
+use Rattle.feature.specs.declared.steps.Turn.{Turn}
+use Rattle.feature.specs.Outcome.{lower}
+use Rattle.feature.specs.State.{flags, subTlv, controlTwice, acknowledged, received, changed, marked}
+use Rattle.feature.specs.TurnLaws.{Same, after, turnOf, peerParametersAfter, renewed, changedBy, changed-by, after-same, renewed-after}
+use Rattle.handling.specs.declared.Heard.{Heard}
+use Rattle.handling.specs.declared.Change.{Change}
+use Rattle.port.specs.declared.Control.{Control}
+use Rattle.port.specs.declared.Port.{Port}
+use Rattle.port.specs.declared.Raised.{Raised}
+use Rattle.port.specs.declared.Raised.the-variants as raised
+use Rattle.port.specs.declared.Notices.{Notices}
+use Rattle.port.specs.declared.Event.{Event}
+use Rattle.port.specs.declared.Answer.the-variants.{Done}
+use Rattle.notices.specs.declared.Kind.the-variants.{DuplicateControl}
+use Rattle.port.specs.Parts.{featureOf, three, withControl, withFeatures, some, running}
+use Rattle.port.specs.Writing.{controlValue, asks}
+use Rattle.port.specs.EventLaws.{counted, sent-counted}
+use Rattle.port.specs.PortEvents.{unsynced, completed, becomes, raises, refused}
+use Rattle.port.specs.WritingLaws.{asks-parts}
+use Rattle.handling.specs.Handling.{Message, hasOf, message, seenTwice, twice, met, numbered, exchanged, once, steps1to4, markNotice, frameEvent, accepted, given, handled}
+
+-- ---- which frames are taken
+
+unfoldable pub admitted : Port → List ℕ → Reading
+admitted p o =
+    if not (running p) then Refused NotRunning
+    else if p .several then Refused SeveralNeighbours
+    else readFrame o
+
+-- a frame that is taken lies inside the octets, and the port runs
+pub record Admits (p : Port) (o : List ℕ) (r : Reading) : Type 0 where
+  pub answers : r ≡ admitted p o
+  pub inside : (c : Contents) → r ≡ Accepted c → Inside o c
+  pub runs : (c : Contents) → r ≡ Accepted c → running p ≡ true
+
+refused-admits : {p : Port} {o : List ℕ} {why : Refusal} → Refused why ≡ admitted p o → Admits p o (Refused why)
+refused-admits e =
+    record {
+      answers = e;
+      inside = λ c q. let z : _≡_ {A = ℕ} 0 1 = cc in absurd (omega arith);
+      runs = λ c q. let z : _≡_ {A = ℕ} 0 1 = cc in absurd (omega arith);
+    }
+
+module _ (p : Port) (o : List ℕ) {b : Bool} (e : b ≡ running p) where
+  pub admit-stopped : not b ≡ true → Admits p o (Refused NotRunning)
+  unfolding admitted
+  admit-stopped t = refused-admits (rw (← e, t) refl)
+
+  module _ (t : not b ≡ false) where
+    pub admit-several : p .several ≡ true → Admits p o (Refused SeveralNeighbours)
+    unfolding admitted
+    admit-several u = refused-admits (rw (← e, t, u) refl)
+
+    pub admit-read : {r : Reading} → p .several ≡ false → ReadPromise o r → Admits p o r
+    unfolding admitted
+    admit-read u h = record { answers = h .is ∙ rw (← e, t, u) refl; inside = h .inside; runs = λ c q. sym e ∙ not-false b t }
+
+pub handled-admitted : (p : Port) (o : List ℕ) → handled p o ≡ given o (admitted p o) p
+unfolding handled given admitted
+handled-admitted p o = by (running p) (p .several)
+  where
+    by : (a b : Bool) → (if not a then refused NotRunning p else if b then refused SeveralNeighbours p else given o (readFrame o) p)
+        ≡ given o (if not a then Refused NotRunning else if b then Refused SeveralNeighbours else readFrame o) p
+    by false b = refl
+    by true true = refl
+    by true false = refl
+
+-- ---- the way that a frame takes
+
+-- a value that was found, as the code cuts it out of the frame
+pub part-is : (o : List ℕ) (x : Found) → take (x .start + x .length - x .start) (drop (x .start) o) ≡ valueOf o x
+part-is o x = rw add-sub-cancel-left refl
+
+abbrev courseOf : List ℕ → Contents → Control → Course
+courseOf o c k =
+    if 1 below c .control .count then Twice
+    else if message o c .oper is lower (k .max) (message o c .max) then Exchange
+    else OtherVersion
+
+abbrev controlBy : Course → Message → Control → Control
+controlBy Twice m k = seenTwice k
+controlBy OtherVersion m k = met (lower (k .max) (m .max)) k
+controlBy Exchange m k = numbered (lower (k .max) (m .max)) m k
+
+unfoldable pub heardOf : List ℕ → Contents → Control → Heard
+heardOf o c k = record { course = courseOf o c k; control = controlBy (courseOf o c k) (message o c) k }
+
+module _ (o : List ℕ) (c : Contents) (k : Control) where
+  pub hear-twice : 1 < c .control .count → record { course = Twice; control = seenTwice k } ≡ heardOf o c k
+  unfolding heardOf
+  hear-twice t = simp (lt-ltb 1 (c .control .count) t)
+
+  module _ (t : c .control .count ≤ 1) {v : List ℕ} (ev : v ≡ valueOf o (c .control)) {a b low : ℕ} (ea : a ≡ at v 0) (eb : b ≡ at v 1) (el : low ≡ lower (k .max) b) where
+    heard-low : low ≡ lower (k .max) (message o c .max)
+    heard-low = el ∙ ap (lower (k .max)) (eb ∙ ap (λ (v : List ℕ). at v 1) ev)
+
+    heard-oper : a ≡ message o c .oper
+    heard-oper = ea ∙ ap (λ (v : List ℕ). at v 0) ev
+
+    pub hear-other : (a ≡ low → ⊥) → record { course = OtherVersion; control = met low k } ≡ heardOf o c k
+    unfolding heardOf
+    hear-other n = simp (le-ltb 1 (c .control .count) t, ← heard-low, ← heard-oper, ne-eqb a low n)
+
+    pub hear-exchange : {m n : ℕ} → a ≡ low → m ≡ number4 v 2 → n ≡ number4 v 6
+        → record {
+          course = Exchange;
+          control = record { max = k .max; oper = low; seq = k .seq; ack = m; rcvd = n; seen = true; duplicate = false };
+        } ≡ heardOf o c k
+    unfolding heardOf
+    hear-exchange q em en = simp (em, en, ev, le-ltb 1 (c .control .count) t, ← heard-low, ← heard-oper, eq-eqb a low q)
+
+-- ---- one feature
+
+abbrev pub afterIn : Feature → State → Heard → ℕ → List ℕ → Found → Turn
+afterIn f x h seq o found = turnOf (after (h .course) f (record { count = found .count; value = valueOf o found }) (h .control .rcvd) seq x)
+
+abbrev pub waitsBy : State → Turn → Bool
+waitsBy x t = x .setting .advertise && not (t .syncd)
+
+module _ (x : State) (t : Turn) where
+  pub changes-withheld : not (x .setting .advertise) ≡ true → false ≡ changedBy x t
+  unfolding changedBy
+  changes-withheld a = simp (not-true (x .setting .advertise) a)
+
+  module _ (a : not (x .setting .advertise) ≡ false) where
+    pub changes-oper : (x .outcome .oper ≡ t .decision .oper → ⊥) → true ≡ changedBy x t
+    unfolding changedBy
+    changes-oper n = simp (not-false (x .setting .advertise) a, ne-eqb (x .outcome .oper) (t .decision .oper) n)
+
+    pub changes-error : x .outcome .oper ≡ t .decision .oper → not (Bool·beq (x .outcome .error) (t .decision .error)) ≡ changedBy x t
+    unfolding changedBy
+    changes-error e = simp (not-false (x .setting .advertise) a, eq-eqb (x .outcome .oper) (t .decision .oper) e)
+
+-- ---- the notice of the port
+
+abbrev pub duplicateNotice : Bool → Bool → Raised
+duplicateNotice before after = if not before && after then raised.Notice DuplicateControl else raised.Nothing
+
+module _ (b a : Bool) where
+  pub duplicate-before : b ≡ true → raised.Nothing ≡ duplicateNotice b a
+  duplicate-before t = rw t refl
+
+  pub duplicate-new : b ≡ false → a ≡ true → raised.Notice DuplicateControl ≡ duplicateNotice b a
+  duplicate-new t u = rw (t, u) refl
+
+  pub duplicate-none : b ≡ false → a ≡ false → raised.Nothing ≡ duplicateNotice b a
+  duplicate-none t u = rw (t, u) refl
+
+-- ---- the port
+
+-- the port after a frame, by the way that the frame takes
+module _ (o : List ℕ) (c : Contents) (p : Port) where
+  abbrev stateBy : Heard → Feature → State
+  stateBy h f = after (h .course) f (hasOf o c f) (h .control .rcvd) (p .control .seq) (featureOf p f)
+
+  abbrev controlAfter : Heard → Control
+  controlAfter h = counted (some (λ f. unsynced (stateBy h f)) && h .control .rcvd is h .control .seq) (h .control)
+
+  abbrev portBy : Heard → Port
+  portBy h = withFeatures (withControl p (controlAfter h)) (stateBy h)
+
+completed-by : (o : List ℕ) (c : Contents) (p : Port) → completed p (steps1to4 o c p) ≡ portBy o c p (heardOf o c (p .control))
+unfolding steps1to4 once twice exchanged heardOf
+completed-by o c p = by (1 below c .control .count) (message o c .oper is lower (p .control .max) (message o c .max)) refl refl
+  where
+    by : (a b : Bool) → 1 below c .control .count ≡ a → message o c .oper is lower (p .control .max) (message o c .max) ≡ b
+        → completed p (steps1to4 o c p) ≡ portBy o c p (heardOf o c (p .control))
+    by true b ea eb = rw ea (sent-counted p (seenTwice (p .control)) (λ f. marked f (p .control .seq) (featureOf p f) (controlTwice (featureOf p f))))
+    by false true ea eb =
+        rw (ea, eb)
+        (sent-counted p (numbered (lower (p .control .max) (message o c .max)) (message o c) (p .control))
+        (λ f. marked f (p .control .seq) (featureOf p f) (received f (hasOf o c f) (acknowledged (message o c .ack) (p .control .seq) (featureOf p f)))))
+    by false false ea eb =
+        rw (ea, eb) (sent-counted p (met (lower (p .control .max) (message o c .max)) (p .control)) (λ f. marked f (p .control .seq) (featureOf p f) (featureOf p f)))
+
+-- what a frame changes, of the port before it and after it
+unfoldable pub changeOf : List ℕ → Contents → Port → Change
+changeOf o c p =
+    let q : Port = completed p (steps1to4 o c p) in
+    record {
+      course = heardOf o c (p .control) .course;
+      wish = asks p q;
+      control = q .control;
+      groups = turnOf (q .groups);
+      flow = turnOf (q .flow);
+      applications = turnOf (q .applications);
+      notices = raises (markNotice p q) p q;
+    }
+
+unsynced-by : (x y : State) → Same x y → unsynced y ≡ waitsBy x (turnOf y)
+unfolding unsynced
+unsynced-by x y s = rw (s .setting) refl
+
+-- a sub-TLV's length is told by the setting
+length-by : (f : Feature) (x y : State) → Same x y → length (subTlv f x) ≡ length (subTlv f y)
+unfolding subTlv
+length-by f x y s = by (x .setting) (y .setting) (s .setting)
+  where
+    by : (t u : Setting) → u ≡ t →
+        length (if t .advertise then headed (featureNumber f) (x .outcome .oper ∷ x .max ∷ flags (t .enable) (t .willing) (x .outcome .error) ∷ 0 ∷ content (t .desired)) else [])
+        ≡ length (if u .advertise then headed (featureNumber f) (y .outcome .oper ∷ y .max ∷ flags (u .enable) (u .willing) (y .outcome .error) ∷ 0 ∷ content (u .desired)) else [])
+    by t u e = rw e (same (t .advertise))
+      where
+        same : (a : Bool) →
+            length (if a then headed (featureNumber f) (x .outcome .oper ∷ x .max ∷ flags (t .enable) (t .willing) (x .outcome .error) ∷ 0 ∷ content (t .desired)) else [])
+            ≡ length (if a then headed (featureNumber f) (y .outcome .oper ∷ y .max ∷ flags (t .enable) (t .willing) (y .outcome .error) ∷ 0 ∷ content (t .desired)) else [])
+        same true = refl
+        same false = refl
+
+-- ---- what is decided, and what is made of it
+
+module _ (o : List ℕ) (c : Contents) (p : Port) where
+  module _ (runs : running p ≡ true) {h : Heard} (eh : h ≡ heardOf o c (p .control)) {g w a : Turn} (eg : g ≡ afterIn Groups (p .groups) h (p .control .seq) o (c .groups))
+      (ew : w ≡ afterIn Flow (p .flow) h (p .control .seq) o (c .flow)) (ea : a ≡ afterIn Applications (p .applications) h (p .control .seq) o (c .applications)) where
+    abbrev q : Port
+    q = portBy o c p h
+
+    done : completed p (steps1to4 o c p) ≡ q
+    done = completed-by o c p ∙ ap (portBy o c p) (sym eh)
+
+    kept : (f : Feature) → Same (featureOf p f) (stateBy o c p h f)
+    kept f = after-same (h .course) f (hasOf o c f) (h .control .rcvd) (p .control .seq) (featureOf p f)
+
+    pub decide-is : {x y z : Bool} → x ≡ waitsBy (p .groups) g → y ≡ waitsBy (p .flow) w → z ≡ waitsBy (p .applications) a
+        → {k : Control} → k ≡ counted (((x || y) || z) && h .control .rcvd is h .control .seq) (h .control)
+        → {s : Bool} → s ≡ same (controlValue (p .control)) (controlValue k)
+        → {b d e : Bool} → b ≡ changedBy (p .groups) g → d ≡ changedBy (p .flow) w → e ≡ changedBy (p .applications) a
+        → {n : Notices} → n .port ≡ duplicateNotice (p .control .duplicate) (k .duplicate) → n .groups ≡ becomes (p .groups .outcome .reason) (g .decision .reason)
+        → n .flow ≡ becomes (p .flow .outcome .reason) (w .decision .reason) → n .applications ≡ becomes (p .applications .outcome .reason) (a .decision .reason)
+        → record { course = h .course; wish = not s || ((b || d) || e); control = k; groups = g; flow = w; applications = a; notices = n } ≡ changeOf o c p
+    unfolding changeOf markNotice
+    decide-is {x} {y} {z} ex ey ez {k} ek {s} es {b} {d} {e} eb ed ee {n} np ng nw na =
+        let ux : x ≡ unsynced (q .groups) = ex ∙ ap (waitsBy (p .groups)) eg ∙ sym (unsynced-by (p .groups) (q .groups) (kept Groups)) in
+        let uy : y ≡ unsynced (q .flow) = ey ∙ ap (waitsBy (p .flow)) ew ∙ sym (unsynced-by (p .flow) (q .flow) (kept Flow)) in
+        let uz : z ≡ unsynced (q .applications) = ez ∙ ap (waitsBy (p .applications)) ea ∙ sym (unsynced-by (p .applications) (q .applications) (kept Applications)) in
+        let uk : k ≡ q .control =
+        ek ∙ (λ i. counted (((ux i || uy i) || uz i) && h .control .rcvd is h .control .seq) (h .control)) in
+        let cg : b ≡ changed Groups (p .groups) (q .groups) = eb ∙ ap (changedBy (p .groups)) eg ∙ sym (changed-by Groups (p .groups) (q .groups) (kept Groups)) in
+        let cw : d ≡ changed Flow (p .flow) (q .flow) = ed ∙ ap (changedBy (p .flow)) ew ∙ sym (changed-by Flow (p .flow) (q .flow) (kept Flow)) in
+        let ca : e ≡ changed Applications (p .applications) (q .applications) =
+        ee ∙ ap (changedBy (p .applications)) ea ∙ sym (changed-by Applications (p .applications) (q .applications) (kept Applications)) in
+        let wish : (not s || ((b || d) || e)) ≡ asks p q =
+        asks-parts p q (length-by Groups (p .groups) (q .groups) (kept Groups)) (length-by Flow (p .flow) (q .flow) (kept Flow)) runs runs
+        (es ∙ ap (λ (k : Control). same (controlValue (p .control)) (controlValue k)) uk) cg cw ca in
+        let notices : n ≡ raises (markNotice p q) p q =
+        λ i. record {
+          port = (np ∙ ap (λ (k : Control). duplicateNotice (p .control .duplicate) (k .duplicate)) uk) i;
+          groups = (ng ∙ ap (λ (t : Turn). becomes (p .groups .outcome .reason) (t .decision .reason)) eg) i;
+          flow = (nw ∙ ap (λ (t : Turn). becomes (p .flow .outcome .reason) (t .decision .reason)) ew) i;
+          applications = (na ∙ ap (λ (t : Turn). becomes (p .applications .outcome .reason) (t .decision .reason)) ea) i;
+        } in
+        rw done (λ i. record { course = eh i .course; wish = wish i; control = uk i; groups = eg i; flow = ew i; applications = ea i; notices = notices i })
+
+  part-made : (f : Feature) {t : Turn} {way : Course} {x : Parameters} {y : State} → way ≡ heardOf o c (p .control) .course → t ≡ turnOf (stateBy o c p (heardOf o c (p .control)) f)
+      → x ≡ peerParametersAfter way f (hasOf o c f .value) (t .decision .held) (featureOf p f) → y ≡ renewed (featureOf p f) t x → y ≡ stateBy o c p (heardOf o c (p .control)) f
+  part-made f {t} {way} {x} {y} ew et ex ey =
+      let h : Heard = heardOf o c (p .control) in
+      let v : List ℕ = hasOf o c f .value in
+      let z : State = stateBy o c p h f in
+      let e : x ≡ peerParametersAfter (h .course) f v (z .outcome .peer .held) (featureOf p f) = ex ∙ (λ i. peerParametersAfter (ew i) f v (et i .decision .held) (featureOf p f)) in
+      ey ∙ (λ i. renewed (featureOf p f) (et i) (e i)) ∙ renewed-after (h .course) f (hasOf o c f) (h .control .rcvd) (p .control .seq) (featureOf p f)
+
+  pub apply-is : {k : Change} → k ≡ changeOf o c p
+      → {x y z : Parameters} → x ≡ peerParametersAfter (k .course) Groups (valueOf o (c .groups)) (k .groups .decision .held) (p .groups)
+      → y ≡ peerParametersAfter (k .course) Flow (valueOf o (c .flow)) (k .flow .decision .held) (p .flow)
+      → z ≡ peerParametersAfter (k .course) Applications (valueOf o (c .applications)) (k .applications .decision .held) (p .applications)
+      → {g w a : State} → g ≡ renewed (p .groups) (k .groups) x → w ≡ renewed (p .flow) (k .flow) y → a ≡ renewed (p .applications) (k .applications) z
+      → withFeatures (withControl p (k .control)) (three g w a) ≡ completed p (steps1to4 o c p)
+  unfolding changeOf
+  apply-is {k} ek ex ey ez {g} {w} {a} eg ew ea =
+      let h : Heard = heardOf o c (p .control) in
+      let done : completed p (steps1to4 o c p) ≡ portBy o c p h = completed-by o c p in
+      let way : k .course ≡ h .course = ap (λ (k : Change). k .course) ek in
+      let ck : k .control ≡ controlAfter o c p h = ap (λ (k : Change). k .control) ek ∙ ap (λ (q : Port). q .control) done in
+      let tg : k .groups ≡ turnOf (stateBy o c p h Groups) = ap (λ (k : Change). k .groups) ek ∙ ap (λ (q : Port). turnOf (q .groups)) done in
+      let tw : k .flow ≡ turnOf (stateBy o c p h Flow) = ap (λ (k : Change). k .flow) ek ∙ ap (λ (q : Port). turnOf (q .flow)) done in
+      let ta : k .applications ≡ turnOf (stateBy o c p h Applications) = ap (λ (k : Change). k .applications) ek ∙ ap (λ (q : Port). turnOf (q .applications)) done in
+      let sg : g ≡ stateBy o c p h Groups = part-made Groups way tg ex eg in
+      let sw : w ≡ stateBy o c p h Flow = part-made Flow way tw ey ew in
+      let sa : a ≡ stateBy o c p h Applications = part-made Applications way ta ez ea in
+      (λ i. withFeatures (withControl p (ck i)) (three (sg i) (sw i) (sa i))) ∙ sym done
+
+-- ---- the whole of it
+
+module _ (p : Port) (o : List ℕ) {r : Reading} (er : Admits p o r) where
+  admitted-event : handled p o ≡ given o r p
+  admitted-event = handled-admitted p o ∙ ap (λ (r : Reading). given o r p) (sym (er .answers))
+
+  pub handle-refused : {why : Refusal} {e : Event} → r ≡ Refused why → e ≡ refused why p → e ≡ handled p o
+  unfolding given
+  handle-refused e ee = rw (admitted-event, e) ee
+
+  pub handle-accepted : {k : Contents} {d : Change} {q : Port} → r ≡ Accepted k → d ≡ changeOf o k p → q ≡ completed p (steps1to4 o k p)
+      → record { answer = Done (d .wish); port = q; notices = d .notices } ≡ handled p o
+  unfolding given accepted frameEvent changeOf
+  handle-accepted e ed eq = rw (admitted-event, e, ed, eq) refl
+
+-- what the calls on the way need of a frame that is accepted
+module _ {p : Port} {o : List ℕ} {r : Reading} {c : Contents} (a : Admits p o r) (e : r ≡ Accepted c) where
+  pub accepted-inside : Inside o c
+  accepted-inside = a .inside c e
+
+  pub accepted-runs : running p ≡ true
+  accepted-runs = a .runs c e

@@ -1,0 +1,265 @@
+// Handling a frame (01, Handling a frame). What is small is decided first; the next port is then made of it at once, since a port
+// is long to copy.
+ghost use mathlib.Core.Path.{_≡_};
+ghost use mathlib.Core.Bool.{true};
+ghost use Prim.Native.Nat.{_+_, _≤_};
+ghost use lib.ListN.{length};
+ghost use Rattle.tlv.specs.Layout.{valueOf};
+ghost use Rattle.tlv.specs.Promises.{Inside};
+ghost use Rattle.feature.specs.TurnLaws.{changedBy, peerParametersAfter};
+ghost use Rattle.port.specs.Parts.{running};
+ghost use Rattle.port.specs.PortEvents.{becomes, completed};
+ghost use Rattle.handling.specs.Handling.{handled, steps1to4};
+ghost use Rattle.handling.specs.HandlingLaws.{Admits, afterIn, changeOf, duplicateNotice, heardOf, waitsBy};
+use feature::State;
+use feature::steps::Course;
+use feature::steps::Turn;
+use notices::Kind;
+use parameters::Feature;
+use parameters::Parameters;
+use port::Answer;
+use port::Control;
+use port::Event;
+use port::Notices;
+use port::Port;
+use port::Raised;
+use tlv::Contents;
+use tlv::Found;
+use tlv::Reading;
+use tlv::Refusal;
+
+// What a frame changes in a port, but for the parameters held of the peer.
+struct Change {
+    course: Course,
+    wish: bool,
+    control: Control,
+    groups: Turn,
+    flow: Turn,
+    applications: Turn,
+    notices: Notices,
+}
+
+// Reads a frame that arrived, if the port takes it.
+fn admit(p: Port, s: &[u8]) -> Reading
+    ensures { λ r. ⌜ Admits p (now (s .entry)) r ⌝ }
+{
+    if !port::writing::running(p) {
+        return Reading::Refused(Refusal::NotRunning);
+    }
+    if p.several {
+        return Reading::Refused(Refusal::SeveralNeighbours);
+    }
+    tlv::read(s)
+}
+
+// A sub-TLV's value, as a part of the frame.
+fn part(s: &[u8], found: Found) -> &[u8]
+    requires { ⌜ found .start + found .length ≤ length (now s) ⌝ }
+    ensures { λ r. ⌜ now r ≡ valueOf (now (s .entry)) found ⌝ }
+{
+    let start = found.start;
+    let end = start + found.length;
+    &s[start..end]
+}
+
+// The way that the frame takes, and the control after steps 1 to 3.
+struct Heard {
+    course: Course,
+    control: Control,
+}
+
+fn hear(s: &[u8], c: Contents, k: Control) -> Heard
+    requires { ⌜ Inside (now s) c ⌝ }
+    ensures { λ r. ⌜ r ≡ heardOf (now (s .entry)) c k ⌝ }
+{
+    let found = c.control;
+    let mut next = k;
+    next.seen = true;
+    if 1 < found.count {
+        next.duplicate = true;
+        return Heard {
+            course: Course::Twice,
+            control: next,
+        };
+    }
+    let value = part(s, found);
+    let oper = octets::octet(value, 0);
+    let low = feature::lower(k.max, octets::octet(value, 1));
+    next.oper = low;
+    next.duplicate = false;
+    if oper != low {
+        return Heard {
+            course: Course::OtherVersion,
+            control: next,
+        };
+    }
+    next.ack = octets::numbers::number4(value, 2);
+    next.rcvd = octets::numbers::number4(value, 6);
+    Heard {
+        course: Course::Exchange,
+        control: next,
+    }
+}
+
+// Steps 1 to 5 for one feature.
+fn turn_of(f: Feature, x: State, h: Heard, seq: u32, s: &[u8], found: Found) -> Turn
+    requires { ⌜ found .start + found .length ≤ length (now s) ⌝ }
+    ensures { λ r. ⌜ r ≡ afterIn f x h seq (now (s .entry)) found ⌝ }
+{
+    let course = h.course;
+    let k = h.control;
+    feature::steps::handle(f, x, course, k.rcvd, seq, found.count, part(s, found))
+}
+
+// Whether the feature is advertised and waits for an acknowledgement.
+fn waits(x: State, t: Turn) -> bool
+    ensures { λ r. ⌜ r ≡ waitsBy x t ⌝ }
+{
+    let s = x.setting;
+    s.advertise & !t.syncd
+}
+
+// Whether the feature's sub-TLV changed: a frame leaves its setting.
+fn changes(x: State, t: Turn) -> bool
+    ensures { λ r. ⌜ r ≡ changedBy x t ⌝ }
+{
+    let s = x.setting;
+    let o = x.outcome;
+    let d = t.decision;
+    if !s.advertise {
+        return false;
+    }
+    if o.oper != d.oper {
+        return true;
+    }
+    o.error != d.error
+}
+
+// The notice for a duplicate control that was not marked before.
+fn duplicate_notice(before: bool, after: bool) -> Raised
+    ensures { λ r. ⌜ r ≡ duplicateNotice before after ⌝ }
+{
+    if before {
+        return Raised::Nothing;
+    }
+    if after {
+        return Raised::Notice(Kind::DuplicateControl);
+    }
+    Raised::Nothing
+}
+
+// The notice of a feature.
+fn notice(x: State, t: Turn) -> Raised
+    ensures { λ r. ⌜ r ≡ becomes (x .outcome .reason) (t .decision .reason) ⌝ }
+{
+    let o = x.outcome;
+    let d = t.decision;
+    let why = o.reason;
+    let now = d.reason;
+    port::events::becomes(why, now)
+}
+
+// Decides what a frame that is accepted changes: `admit` says that the port runs and that the parts lie inside.
+fn decide(p: Port, s: &[u8], c: Contents) -> Change
+    requires { ⌜ Inside (now s) c × (running p ≡ true) ⌝ }
+    ensures { λ r. ⌜ r ≡ changeOf (now (s .entry)) c p ⌝ }
+{
+    let old = p.control;
+    let h = hear(s, c, old);
+    let course = h.course;
+    let g = turn_of(Feature::Groups, p.groups, h, old.seq, s, c.groups);
+    let w = turn_of(Feature::Flow, p.flow, h, old.seq, s, c.flow);
+    let a = turn_of(
+        Feature::Applications,
+        p.applications,
+        h,
+        old.seq,
+        s,
+        c.applications,
+    );
+    let waiting = waits(p.groups, g) | waits(p.flow, w) | waits(p.applications, a);
+    let control = port::events::count(h.control, waiting);
+    let same = port::writing::same_control(old, control);
+    let changed = changes(p.groups, g) | changes(p.flow, w) | changes(p.applications, a);
+    let x = duplicate_notice(old.duplicate, control.duplicate);
+    let y = notice(p.groups, g);
+    let z = notice(p.flow, w);
+    let v = notice(p.applications, a);
+    Change {
+        course: course,
+        wish: !same | changed,
+        control: control,
+        groups: g,
+        flow: w,
+        applications: a,
+        notices: Notices {
+            port: x,
+            groups: y,
+            flow: z,
+            applications: v,
+        },
+    }
+}
+
+// The parameters that are held of the peer after a frame.
+fn peer_parameters(
+    f: Feature,
+    x: State,
+    course: Course,
+    t: Turn,
+    s: &[u8],
+    found: Found,
+) -> Parameters
+    requires { ⌜ found .start + found .length ≤ length (now s) ⌝ }
+    ensures { λ r. ⌜ r ≡ peerParametersAfter course f (valueOf (now (s .entry)) found) (t .decision .held) x ⌝ }
+{
+    let d = t.decision;
+    feature::steps::peer_parameters_after(f, x, course, d.held, part(s, found))
+}
+
+// The port after a frame that is accepted, by what `decide` says that it changes.
+fn apply(p: Port, k: Change, s: &[u8], c: Contents) -> Port
+    requires { ⌜ Inside (now s) c × (k ≡ changeOf (now s) c p) ⌝ }
+    ensures { λ r. ⌜ r ≡ completed p (steps1to4 (now (s .entry)) c p) ⌝ }
+{
+    let course = k.course;
+    let control = k.control;
+    let x = peer_parameters(Feature::Groups, p.groups, course, k.groups, s, c.groups);
+    let y = peer_parameters(Feature::Flow, p.flow, course, k.flow, s, c.flow);
+    let z = peer_parameters(
+        Feature::Applications,
+        p.applications,
+        course,
+        k.applications,
+        s,
+        c.applications,
+    );
+    let mut next = p;
+    next.control = control;
+    next.groups = feature::steps::renew(p.groups, k.groups, x);
+    next.flow = feature::steps::renew(p.flow, k.flow, y);
+    next.applications = feature::steps::renew(p.applications, k.applications, z);
+    next
+}
+
+// Handles a frame that arrived (01, Handling a frame). A refused frame changes nothing.
+pub fn handle(p: Port, s: &[u8]) -> Event
+    ensures { λ r. ⌜ r ≡ handled p (now (s .entry)) ⌝ }
+{
+    let read = admit(p, s);
+    match read {
+        Reading::Refused(why) => {
+            return port::events::refuse(why, p);
+        }
+        Reading::Accepted(contents) => {
+            let change = decide(p, s, contents);
+            let port = apply(p, change, s, contents);
+            let notices = change.notices;
+            return Event {
+                answer: Answer::Done(change.wish),
+                port: port,
+                notices: notices,
+            };
+        }
+    }
+}
