@@ -1,6 +1,9 @@
 -- What reading answers, in document 01's numbers.
 use Prim.Native.Nat.{ℕ}
 use mathlib.Core.List.{List, [], _∷_, _++_}
+use Rattle.tlv.specs.declared.Refusal.the-variants.{PastEnd}
+use Rattle.tlv.specs.declared.Head.{Head}
+use Rattle.tlv.specs.declared.Head.the-variants.{End, Past, SubTlv}
 use Rattle.tlv.specs.declared.Found.{Found}
 use Rattle.tlv.specs.declared.Contents.{Contents}
 use Rattle.tlv.specs.declared.Reading.{Reading}
@@ -10,6 +13,13 @@ use Rattle.tlv.specs.Refusals.{Reply, done, refusal}
 -- how often a type came, and the place and the length of the last one's value
 abbrev pub foundValues : Found → List ℕ
 foundValues x = x .count ∷ x .start ∷ x .length ∷ []
+
+-- what stands at a place of the TLV: nothing at its end; "a sub-TLV, or its head, runs past the end"; or a sub-TLV's type and the place and
+-- the length of its value
+abbrev pub headReply : Head → Reply
+headReply End = done []
+headReply Past = refusal PastEnd
+headReply (SubTlv type start n) = done (type ∷ start ∷ n ∷ [])
 
 -- refusals 3 to 8; or what was found of control, priority groups, flow control and applications
 abbrev pub readingReply : Reading → Reply
