@@ -75,22 +75,31 @@ fn port_flag(f: script::Flag) -> Flag {
     }
 }
 
-fn set_flag(out: &mut [u8], at: usize, c: Card, f: script::Flag, on: bool) -> Step {
-    stepped(out, at, c.log, card::set_flag(c, port_flag(f), on))
+fn change_setting(c: Card, number: u8, w: Switches, l: Line) -> Handled {
+    card::change_setting(c, number, w, octets::first(&l.octets, l.n))
 }
 
-fn change_setting(out: &mut [u8], at: usize, c: Card, number: u8, w: Switches, l: Line) -> Step {
-    let o = l.octets;
-    stepped(
-        out,
-        at,
-        c.log,
-        card::change_setting(c, number, w, octets::first(&o, l.n)),
-    )
-}
-
-fn peer_gone(out: &mut [u8], at: usize, c: Card) -> Step {
-    stepped(out, at, c.log, card::peer_gone(c))
+// A line that the card answers with `done` or `refused`.
+fn change(c: Card, line: &[u8], l: Line) -> Handled {
+    let kind = l.kind;
+    match kind {
+        Kind::Gone => card::peer_gone(c),
+        Kind::Flag(f, on) => card::set_flag(c, port_flag(f), on),
+        Kind::Setting {
+            number,
+            advertise,
+            enable,
+            willing,
+        } => {
+            let w = Switches {
+                advertise: advertise,
+                enable: enable,
+                willing: willing,
+            };
+            change_setting(c, number, w, l)
+        }
+        _ => handle(c, line),
+    }
 }
 
 // Writes the frame into an output of `room` octets, or of all where there are fewer.
@@ -111,23 +120,29 @@ fn write(out: &mut [u8], at: usize, c: Card, room: usize) -> usize {
     }
 }
 
+fn taken(out: &mut [u8], at: usize, x: Took) -> usize {
+    match x {
+        Took::Notice(n) => report::answers::notice(out, at, n),
+        Took::Refused(r) => report::answers::refused(out, at, r),
+    }
+}
+
 fn take(out: &mut [u8], at: usize, c: Card) -> Step {
     let t = card::take(c);
     let card = t.card;
     let answer = t.answer;
-    match answer {
-        Took::Notice(n) => {
-            return Step {
-                card: card,
-                at: report::answers::notice(out, at, n),
-            };
-        }
-        Took::Refused(r) => {
-            return Step {
-                card: card,
-                at: report::answers::refused(out, at, r),
-            };
-        }
+    Step {
+        card: card,
+        at: taken(out, at, answer),
+    }
+}
+
+// A line that leaves the card as it is.
+fn tell(out: &mut [u8], at: usize, c: Card, number: u64, k: Kind) -> usize {
+    match k {
+        Kind::Write(room) => write(out, at, c, room),
+        Kind::Show => report::states::show(out, at, c.port, c.log),
+        _ => report::answers::unread(out, at, number),
     }
 }
 
@@ -139,38 +154,13 @@ pub fn event(out: &mut [u8], at: usize, c: Card, number: u64, line: &[u8]) -> St
     let l = script::parse_event(line);
     let kind = l.kind;
     match kind {
-        Kind::Frame => stepped(out, at, c.log, handle(c, line)),
-        Kind::Gone => peer_gone(out, at, c),
-        Kind::Flag(f, on) => set_flag(out, at, c, f, on),
-        Kind::Setting {
-            number: feature,
-            advertise,
-            enable,
-            willing,
-        } => {
-            let w = Switches {
-                advertise: advertise,
-                enable: enable,
-                willing: willing,
-            };
-            change_setting(out, at, c, feature, w, l)
-        }
-        Kind::Write(room) => Step {
-            card: c,
-            at: write(out, at, c, room),
-        },
         Kind::Take => take(out, at, c),
-        Kind::Show => Step {
+        Kind::Frame | Kind::Gone | Kind::Flag(_, _) | Kind::Setting { .. } => {
+            stepped(out, at, c.log, change(c, line, l))
+        }
+        _ => Step {
             card: c,
-            at: report::states::show(out, at, c),
-        },
-        Kind::Control(_) => Step {
-            card: c,
-            at: report::answers::unread(out, at, number),
-        },
-        Kind::Unreadable => Step {
-            card: c,
-            at: report::answers::unread(out, at, number),
+            at: tell(out, at, c, number, kind),
         },
     }
 }

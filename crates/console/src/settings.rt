@@ -27,7 +27,7 @@ pub struct Settings {
     pub applications: Setting,
 }
 
-// A line of a feature's setting; `good` says that it was read.
+// A line of the settings; where `good` is false it cannot be read, or is missing.
 struct Read {
     good: bool,
     lines: Lines,
@@ -53,130 +53,76 @@ fn setting_with(number: u64, max: u8, w: Switches, l: Line) -> Setting {
     }
 }
 
+// What a line sets; a control line has its highest version alone, and no other kind sets anything.
+fn setting_on(number: u64, l: Line) -> Setting {
+    let kind = l.kind;
+    match kind {
+        Kind::Setting {
+            number: max,
+            advertise,
+            enable,
+            willing,
+        } => setting_with(number, max, switches(advertise, enable, willing), l),
+        Kind::Control(max) => setting_with(number, max, switches(false, false, false), l),
+        _ => setting_with(number, 0, switches(false, false, false), l),
+    }
+}
+
+fn is_read(k: Kind) -> bool {
+    match k {
+        Kind::Unreadable => false,
+        _ => true,
+    }
+}
+
 // The next line, read as the one that is due.
 fn read_setting(buffer: &mut [u8], l: Lines, due: Part) -> Read {
     let lines = crate::next_line(buffer, l);
     let line = script::parse_setting(due, crate::line(buffer, lines));
     let kind = line.kind;
-    if let Kind::Setting {
-        number,
-        advertise,
-        enable,
-        willing,
-    } = kind {
-        return Read {
-            good: lines.found,
-            lines: lines,
-            setting: setting_with(
-                lines.number,
-                number,
-                switches(advertise, enable, willing),
-                line,
-            ),
-        };
-    }
     Read {
-        good: false,
+        good: lines.found & is_read(kind),
         lines: lines,
-        setting: setting_with(0, 0, switches(false, false, false), line),
+        setting: setting_on(lines.number, line),
     }
 }
 
-struct ReadControl {
-    good: bool,
-    lines: Lines,
-    max: u8,
+// The line behind one that was read.
+fn read_behind(buffer: &mut [u8], r: Read, due: Part) -> Read {
+    if !r.good {
+        return r;
+    }
+    read_setting(buffer, r.lines, due)
 }
 
-fn read_control(buffer: &mut [u8], l: Lines) -> ReadControl {
-    let lines = crate::next_line(buffer, l);
-    let line = script::parse_setting(Part::Control, crate::line(buffer, lines));
-    let kind = line.kind;
-    if let Kind::Control(max) = kind {
-        return ReadControl {
-            good: lines.found,
-            lines: lines,
-            max: max,
-        };
-    }
-    ReadControl {
-        good: false,
-        lines: lines,
-        max: 0,
-    }
-}
-
-fn no_setting() -> Setting {
-    Setting {
-        number: 0,
-        max: 0,
-        switches: switches(false, false, false),
-        n: 0,
-        octets: [0; 513],
-    }
-}
-
-fn unread(lines: Lines) -> Settings {
-    let none = no_setting();
+fn settings_of(max: u8, groups: Read, flow: Read, applications: Read) -> Settings {
+    let g = groups.setting;
+    let w = flow.setting;
+    let a = applications.setting;
+    let lines = applications.lines;
     Settings {
-        good: false,
-        lines: lines,
-        control: 0,
-        groups: none,
-        flow: none,
-        applications: none,
-    }
-}
-
-// The last of the four lines.
-fn read_applications(
-    buffer: &mut [u8],
-    l: Lines,
-    max: u8,
-    groups: Setting,
-    flow: Setting,
-) -> Settings {
-    let r = read_setting(buffer, l, Part::Applications);
-    let lines = r.lines;
-    let applications = r.setting;
-    Settings {
-        good: r.good,
+        good: applications.good,
         lines: lines,
         control: max,
-        groups: groups,
-        flow: flow,
-        applications: applications,
+        groups: g,
+        flow: w,
+        applications: a,
     }
 }
 
-fn read_flow(buffer: &mut [u8], l: Lines, max: u8, groups: Setting) -> Settings {
-    let r = read_setting(buffer, l, Part::Flow);
-    let lines = r.lines;
-    let flow = r.setting;
-    if !r.good {
-        return unread(lines);
-    }
-    read_applications(buffer, lines, max, groups, flow)
+// The last two of the four lines.
+fn read_rest(buffer: &mut [u8], max: u8, groups: Read) -> Settings {
+    let flow = read_behind(buffer, groups, Part::Flow);
+    let applications = read_behind(buffer, flow, Part::Applications);
+    settings_of(max, groups, flow, applications)
 }
 
-fn read_groups(buffer: &mut [u8], l: Lines, max: u8) -> Settings {
-    let r = read_setting(buffer, l, Part::Groups);
-    let lines = r.lines;
-    let groups = r.setting;
-    if !r.good {
-        return unread(lines);
-    }
-    read_flow(buffer, lines, max, groups)
-}
-
-// Reads the four lines of an end.
+// Reads the four lines of an end, up to one that cannot be read.
 pub fn read_end(buffer: &mut [u8], l: Lines) -> Settings {
-    let r = read_control(buffer, l);
-    let lines = r.lines;
-    if !r.good {
-        return unread(lines);
-    }
-    read_groups(buffer, lines, r.max)
+    let control = read_setting(buffer, l, Part::Control);
+    let c = control.setting;
+    let groups = read_behind(buffer, control, Part::Groups);
+    read_rest(buffer, c.max, groups)
 }
 
 // The number of the line that cannot be read; of a line that is missing, one more than there are.
@@ -209,45 +155,24 @@ pub fn invalid_line(s: Settings) -> u64 {
     0
 }
 
-fn create_with(
-    v: Versions,
-    gw: Switches,
-    gn: usize,
-    go: [u8; 513],
-    ww: Switches,
-    wn: usize,
-    wo: [u8; 513],
-    aw: Switches,
-    an: usize,
-    ao: [u8; 513],
-) -> Handled {
-    card::create(
-        v,
-        gw,
-        octets::first(&go, gn),
-        ww,
-        octets::first(&wo, wn),
-        aw,
-        octets::first(&ao, an),
-    )
-}
-
 // The card of an end.
 pub fn create(s: Settings) -> Handled {
     let g = s.groups;
     let w = s.flow;
     let a = s.applications;
-    let gw = g.switches;
-    let ww = w.switches;
-    let aw = a.switches;
-    let go = g.octets;
-    let wo = w.octets;
-    let ao = a.octets;
     let versions = Versions {
         control: s.control,
         groups: g.max,
         flow: w.max,
         applications: a.max,
     };
-    create_with(versions, gw, g.n, go, ww, w.n, wo, aw, a.n, ao)
+    card::create(
+        versions,
+        g.switches,
+        octets::first(&g.octets, g.n),
+        w.switches,
+        octets::first(&w.octets, w.n),
+        a.switches,
+        octets::first(&a.octets, a.n),
+    )
 }

@@ -1,6 +1,7 @@
 // The desk: the settings of one end, then events, one a line, each answered before the next is read (docs/FORMATS.md).
 use card::Card;
 use console::Lines;
+use console::settings::Settings;
 
 // What an answer may take of the output; the longest, of `show`, is shorter.
 const ROOM: usize = 16384;
@@ -73,26 +74,27 @@ fn run(input: &mut [u8], output: &mut [u8], start: Card, first: Lines) {
     }
 }
 
+// Puts what is wrong with the settings, if anything is, and gives the place behind it.
+fn complain(output: &mut [u8], s: Settings) -> usize {
+    if !s.good {
+        return report::answers::unread_setting(output, 0, console::settings::unread_line(s.lines));
+    }
+    let bad = console::settings::invalid_line(s);
+    if bad != 0 {
+        return report::answers::refused_setting(output, 0, bad);
+    }
+    0
+}
+
 fn main() {
     let mut input = io::large_buffer();
     let mut output = io::large_buffer();
     let s = console::settings::read_end(&mut input, console::start());
-    let lines = s.lines;
-    if !s.good {
-        let at = report::answers::unread_setting(
-            &mut output,
-            0,
-            console::settings::unread_line(lines),
-        );
-        flush(&output, at);
-        return;
-    }
-    let bad = console::settings::invalid_line(s);
-    if bad != 0 {
-        let at = report::answers::refused_setting(&mut output, 0, bad);
-        flush(&output, at);
+    let wrong = complain(&mut output, s);
+    if wrong != 0 {
+        flush(&output, wrong);
         return;
     }
     let made = console::settings::create(s);
-    run(&mut input, &mut output, made.card, lines);
+    run(&mut input, &mut output, made.card, s.lines);
 }

@@ -1,59 +1,55 @@
 // Will two ends agree? Reads the settings of A and of B, runs rounds until both ends are settled, and reports (docs/FORMATS.md).
-use card::Card;
 use console::settings::Settings;
+use exchange::Pair;
 use feature::State;
+use notices::Log;
 use parameters::Feature;
+use port::Port;
 
 // Five rounds are always enough (01, Rounds of two ends).
 const ROUNDS: u64 = 5;
 
 // Two ends of a cable, after so many rounds.
 struct Ends {
-    a: Card,
-    b: Card,
+    pair: Pair,
     rounds: u64,
 }
 
+// Both ends, just created.
+fn create(x: Settings, y: Settings) -> Pair {
+    let left = console::settings::create(x);
+    let right = console::settings::create(y);
+    let a = left.card;
+    let b = right.card;
+    Pair { left: a, right: b }
+}
+
 // One round between the two ends.
-fn round(e: Ends) -> Ends {
+fn round(p: Pair) -> Pair {
     let mut from_a = [0; 147];
     let mut from_b = [0; 147];
-    let next = exchange::round(e.a, e.b, &mut from_a, &mut from_b);
-    let a = next.left;
-    let b = next.right;
-    Ends {
-        a: a,
-        b: b,
-        rounds: std::num::wrapping_add_u64(e.rounds, 1),
-    }
+    exchange::round(p.left, p.right, &mut from_a, &mut from_b)
 }
 
 // Rounds until both ends are settled; settled means agreed (exchange/specs/Demand3.antt, `agrees`).
-fn settle(start: Ends) -> Ends {
-    let mut e = start;
-    let mut left = ROUNDS;
-    while 0 < left && !exchange::settled(e.a, e.b) {
-        e = round(e);
-        left -= 1;
+fn settle(start: Pair) -> Ends {
+    let mut pair = start;
+    let mut rounds: u64 = 0;
+    while rounds < ROUNDS && !exchange::settled(pair.left, pair.right) {
+        pair = round(pair);
+        rounds += 1;
     }
-    e
+    Ends {
+        pair: pair,
+        rounds: rounds,
+    }
 }
 
 // An end advertises a feature, and its mode is false.
 fn is_open(x: State) -> bool {
     let s = x.setting;
     let o = x.outcome;
-    if s.advertise {
-        return !o.mode;
-    }
-    false
-}
-
-fn either_open(x: State, y: State) -> bool {
-    if is_open(x) {
-        return true;
-    }
-    is_open(y)
+    s.advertise & !o.mode
 }
 
 // The features that are not in force at an end that advertises them.
@@ -63,92 +59,72 @@ struct Open {
     applications: bool,
 }
 
-fn open_features(e: Ends) -> Open {
-    let a = e.a;
-    let b = e.b;
-    let p = a.port;
-    let q = b.port;
-    let pg = p.groups;
-    let pw = p.flow;
-    let pa = p.applications;
-    let qg = q.groups;
-    let qw = q.flow;
-    let qa = q.applications;
+fn open_features(p: Port) -> Open {
     Open {
-        groups: either_open(pg, qg),
-        flow: either_open(pw, qw),
-        applications: either_open(pa, qa),
+        groups: is_open(p.groups),
+        flow: is_open(p.flow),
+        applications: is_open(p.applications),
     }
-}
-
-fn named(out: &mut [u8], at: usize, f: Feature, is_named: bool) -> usize {
-    if !is_named {
-        return at;
-    }
-    let a = report::text(out, at, b" ");
-    report::states::feature_name(out, a, f)
-}
-
-fn agreed(out: &mut [u8], at: usize, rounds: u64) -> usize {
-    let a = report::states::named_number(out, at, b"agreed after ", rounds);
-    report::text(out, a, b" rounds\n")
 }
 
 // `agreed after N rounds`, or `not agreed after N rounds: FEATURES`
-fn verdict(out: &mut [u8], at: usize, rounds: u64, o: Open) -> usize {
-    if !o.groups && !o.flow && !o.applications {
-        return agreed(out, at, rounds);
-    }
-    let a = report::states::named_number(out, at, b"not agreed after ", rounds);
-    let b = report::text(out, a, b" rounds:");
-    let c = named(out, b, Feature::Groups, o.groups);
-    let d = named(out, c, Feature::Flow, o.flow);
-    let e = named(out, d, Feature::Applications, o.applications);
-    report::text(out, e, b"\n")
+fn verdict(out: &mut [u8], at: usize, rounds: u64, a: Open, b: Open) -> usize {
+    let groups = a.groups | b.groups;
+    let flow = a.flow | b.flow;
+    let applications = a.applications | b.applications;
+    let any = groups | flow | applications;
+    let numbers = [
+        any as u64,
+        rounds,
+        any as u64,
+        groups as u64,
+        flow as u64,
+        applications as u64,
+    ];
+    report::forms::put(
+        out,
+        at,
+        b"[|not ]agreed after # rounds[|:][| groups][| flow][| applications]\n",
+        &numbers,
+    )
 }
 
 fn control_line(out: &mut [u8], at: usize, name: &[u8], version: u8) -> usize {
+    let numbers = [version as u64];
     let a = report::text(out, at, name);
-    let b = report::states::named_number(out, a, b"control version ", version as u64);
-    report::text(out, b, b"\n")
+    report::forms::put(out, a, b"control version #\n", &numbers)
 }
 
 // What an end has come to; each line begins with its name.
-fn end_lines(out: &mut [u8], at: usize, name: &[u8], c: Card) -> usize {
-    let p = c.port;
-    let log = c.log;
+fn end_lines(out: &mut [u8], at: usize, name: &[u8], p: Port, log: Log) -> usize {
     let k = p.control;
-    let g = p.groups;
-    let w = p.flow;
-    let x = p.applications;
     let a = control_line(out, at, name, k.oper);
-    let b = report::configurations::feature_line(out, a, name, Feature::Groups, g);
-    let d = report::configurations::feature_line(out, b, name, Feature::Flow, w);
-    let e = report::configurations::feature_line(out, d, name, Feature::Applications, x);
-    report::states::notice_lines(out, e, name, log, 0)
+    let b = report::configurations::feature_line(out, a, name, Feature::Groups, p.groups);
+    let c = report::configurations::feature_line(out, b, name, Feature::Flow, p.flow);
+    let d = report::configurations::feature_line(
+        out,
+        c,
+        name,
+        Feature::Applications,
+        p.applications,
+    );
+    report::states::notice_lines(out, d, name, log, 0)
 }
 
 // The whole report.
 fn report_on(out: &mut [u8], e: Ends) -> usize {
-    let a = e.a;
-    let b = e.b;
-    let first = verdict(out, 0, e.rounds, open_features(e));
-    let second = end_lines(out, first, b"A ", a);
-    end_lines(out, second, b"B ", b)
-}
-
-// Creates both ends, lets them exchange frames, and reports; the place behind the report.
-fn compared(out: &mut [u8], x: Settings, y: Settings) -> usize {
-    let left = console::settings::create(x);
-    let right = console::settings::create(y);
-    let a = left.card;
-    let b = right.card;
-    let start = Ends {
-        a: a,
-        b: b,
-        rounds: 0,
-    };
-    report_on(out, settle(start))
+    let pair = e.pair;
+    let a = pair.left;
+    let b = pair.right;
+    let first = verdict(
+        out,
+        0,
+        e.rounds,
+        open_features(a.port),
+        open_features(b.port),
+    );
+    let second = end_lines(out, first, b"A ", a.port, a.log);
+    end_lines(out, second, b"B ", b.port, b.log)
 }
 
 // The report on settings that were read, or what is wrong with them.
@@ -161,7 +137,7 @@ fn judged(out: &mut [u8], x: Settings, y: Settings) -> usize {
     if wrong != 0 {
         return report::answers::refused_setting(out, 0, wrong);
     }
-    compared(out, x, y)
+    report_on(out, settle(create(x, y)))
 }
 
 // Reads both ends, and gives the place behind what is to be said.

@@ -1,11 +1,13 @@
 // Text for people and scripts, put into a buffer: words, numbers, octets; states; configurations in words.
 // Each function puts its text at a place and gives the place behind it. Text that finds no room is left out.
 ghost use mathlib.Core.Path.{_≡_};
-ghost use Prim.Native.Nat.{_%_};
+ghost use Prim.Native.Nat.{_%_, _≤_};
+ghost use lib.ListN.{length};
 ghost use Rattle.report.specs.Put.{Put, Numbered, glyph, hexText};
 
 pub mod answers;
 pub mod configurations;
+pub mod forms;
 pub mod states;
 
 // Puts a text at `at`.
@@ -34,14 +36,6 @@ pub fn number(out: &mut [u8], at: usize, n: u64) -> usize
     let mut digits = [0u8; 20];
     let k = io::decimal(n, &mut digits);
     text(out, at, &digits[..k])
-}
-
-// Puts `0` or `1`.
-pub fn bit(out: &mut [u8], at: usize, b: bool) -> usize {
-    if b {
-        return text(out, at, b"1");
-    }
-    text(out, at, b"0")
 }
 
 // The hex digit of the lower half of an octet.

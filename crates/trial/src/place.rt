@@ -18,26 +18,6 @@ pub fn put(out: &mut [u8], at: usize, x: u8) -> usize {
     at
 }
 
-// 1 for true, 0 for false.
-pub fn put_bit(out: &mut [u8], at: usize, b: bool) -> usize {
-    if b {
-        return put(out, at, 1);
-    }
-    put(out, at, 0)
-}
-
-pub fn put2(out: &mut [u8], at: usize, n: usize) -> usize {
-    let next = put(out, at, (n / 256 % 256) as u8);
-    put(out, next, (n % 256) as u8)
-}
-
-pub fn put4(out: &mut [u8], at: usize, n: u32) -> usize {
-    let second = put(out, at, (n / 256 / 256 / 256 % 256) as u8);
-    let third = put(out, second, (n / 256 / 256 % 256) as u8);
-    let fourth = put(out, third, (n / 256 % 256) as u8);
-    put(out, fourth, (n % 256) as u8)
-}
-
 pub fn put_all(out: &mut [u8], at: usize, s: &[u8]) -> usize {
     let mut next = at;
     let mut i: usize = 0;
@@ -46,6 +26,17 @@ pub fn put_all(out: &mut [u8], at: usize, s: &[u8]) -> usize {
         i += 1;
     }
     next
+}
+
+// A number, high octet first.
+pub fn put4(out: &mut [u8], at: usize, n: u32) -> usize {
+    let octets = [
+        (n / 256 / 256 / 256 % 256) as u8,
+        (n / 256 / 256 % 256) as u8,
+        (n / 256 % 256) as u8,
+        (n % 256) as u8,
+    ];
+    put_all(out, at, &octets)
 }
 
 // The end of a part of `room` octets from `at`, which the caller has found to be inside, or of what is there where that is less.

@@ -3,12 +3,14 @@ use crate::place;
 use crate::state;
 use card::Card;
 use card::Handled;
-use card::Taken;
 use card::Took;
 use feature::State;
 use feature::Switches;
+use notices::Log;
 use port::Answer;
+use port::Control;
 use port::Flag;
+use port::Port;
 use port::Versions;
 use port::Written;
 use tlv::Refusal;
@@ -27,6 +29,12 @@ struct Told {
     length: usize,
     notice: u8,
     feature: u8,
+}
+
+// What a step that lends no output gives: what is told of it, and the card behind it.
+struct Given {
+    told: Told,
+    card: Card,
 }
 
 // The switches of an octet.
@@ -102,93 +110,166 @@ fn done(wish: bool, length: usize, notice: u8, feature: u8) -> Told {
 }
 
 fn put_told(out: &mut [u8], at: usize, x: Told) -> usize {
-    let wish = place::put(out, at, x.refusal);
-    let length = place::put_bit(out, wish, x.wish);
-    let notice = place::put2(out, length, x.length);
-    let feature = place::put(out, notice, x.notice);
-    place::put(out, feature, x.feature)
+    let octets = [
+        x.refusal,
+        x.wish as u8,
+        (x.length / 256 % 256) as u8,
+        (x.length % 256) as u8,
+        x.notice,
+        x.feature,
+    ];
+    place::put_all(out, at, &octets)
 }
 
-// Writes the answer, then the state.
-fn tell(t: Trial, x: Told, out: &mut [u8]) -> Trial {
-    let at = put_told(out, t.at, x);
-    let mut next = t;
-    if !t.made {
-        next.at = at;
-        return next;
+// Writes what is told, then the state of the card, once one was made.
+fn tell(out: &mut [u8], at: usize, told: Told, made: bool, card: Card) -> usize {
+    let behind = put_told(out, at, told);
+    if made {
+        return state::put(out, behind, card);
     }
-    let card = t.card;
-    next.at = state::put(out, at, card);
+    behind
+}
+
+fn answered(x: Answer) -> Told {
+    match x {
+        Answer::Done(wish) => done(wish, 0, 0, 0),
+        Answer::Refused(why) => refused(why),
+    }
+}
+
+fn took(x: Took) -> Told {
+    match x {
+        Took::Notice(n) => {
+            let kind = n.kind;
+            done(false, 0, notices::notice_number(kind), n.feature)
+        }
+        Took::Refused(why) => refused(why),
+    }
+}
+
+fn wrote(x: Written) -> Told {
+    match x {
+        Written::Octets(n) => done(false, n, 0, 0),
+        Written::Refused(why) => refused(why),
+    }
+}
+
+fn flag(number: u8) -> Flag {
+    match number {
+        0 => Flag::Admin,
+        1 => Flag::Receive,
+        2 => Flag::Transmit,
+        _ => Flag::Several,
+    }
+}
+
+fn change(c: Card, step: &[u8]) -> Handled {
+    let number = octets::octet(step, 1);
+    let w = switches(octets::octet(step, 2));
+    card::change_setting(c, number, w, octets::from(step, 3))
+}
+
+// A frame, a peer that is gone, a flag or a setting change.
+fn handle(c: Card, kind: u8, step: &[u8]) -> Handled {
+    if kind == 1 {
+        return card::handle(c, octets::from(step, 1));
+    }
+    if kind == 2 {
+        return card::peer_gone(c);
+    }
+    if kind == 3 {
+        let on = octets::octet(step, 2) == 1;
+        return card::set_flag(c, flag(octets::octet(step, 1)), on);
+    }
+    change(c, step)
+}
+
+fn with_sequence(x: State, sequence: u32) -> State {
+    let mut next = x;
+    next.sequence = sequence;
     next
 }
 
-fn handled(t: Trial, h: Handled, out: &mut [u8]) -> Trial {
+fn with_numbers(c: Control, step: &[u8]) -> Control {
+    let mut next = c;
+    next.seq = octets::numbers::number4(step, 1);
+    next.ack = octets::numbers::number4(step, 5);
+    next.rcvd = octets::numbers::number4(step, 9);
+    next
+}
+
+// The numbers of control and of the features are set.
+fn numbers(p: Port, step: &[u8]) -> Port {
+    let mut next = p;
+    next.control = with_numbers(p.control, step);
+    next.groups = with_sequence(p.groups, octets::numbers::number4(step, 13));
+    next.flow = with_sequence(p.flow, octets::numbers::number4(step, 17));
+    next.applications = with_sequence(p.applications, octets::numbers::number4(step, 21));
+    next
+}
+
+// The dropped count is set.
+fn dropped(l: Log, count: u32) -> Log {
+    let mut next = l;
+    next.dropped = count;
+    next
+}
+
+// What is no event of document 01.
+fn set(c: Card, kind: u8, step: &[u8]) -> Card {
+    let mut next = c;
+    if kind == 7 {
+        next.port = numbers(c.port, step);
+        return next;
+    }
+    next.log = dropped(c.log, octets::numbers::number4(step, 1));
+    next
+}
+
+// Every step that lends no output and creates no card.
+fn event(c: Card, kind: u8, step: &[u8]) -> Given {
+    if kind < 5 {
+        let h = handle(c, kind, step);
+        let answer = h.answer;
+        let card = h.card;
+        return Given {
+            told: answered(answer),
+            card: card,
+        };
+    }
+    if kind == 6 {
+        let t = card::take(c);
+        let answer = t.answer;
+        let card = t.card;
+        return Given {
+            told: took(answer),
+            card: card,
+        };
+    }
+    Given {
+        told: done(false, 0, 0, 0),
+        card: set(c, kind, step),
+    }
+}
+
+fn is_done(x: Answer) -> bool {
+    match x {
+        Answer::Done(_) => true,
+        Answer::Refused(_) => false,
+    }
+}
+
+fn created(t: Trial, step: &[u8], out: &mut [u8]) -> Trial {
+    let h = create(step);
     let answer = h.answer;
     let card = h.card;
     let mut next = t;
-    next.card = card;
-    match answer {
-        Answer::Done(wish) => {
-            return tell(next, done(wish, 0, 0, 0), out);
-        }
-        Answer::Refused(why) => {
-            return tell(next, refused(why), out);
-        }
+    if is_done(answer) {
+        next.made = true;
+        next.card = card;
     }
-}
-
-fn created(t: Trial, h: Handled, out: &mut [u8]) -> Trial {
-    let answer = h.answer;
-    let card = h.card;
-    match answer {
-        Answer::Done(wish) => {
-            let mut next = t;
-            next.made = true;
-            next.card = card;
-            return tell(next, done(wish, 0, 0, 0), out);
-        }
-        Answer::Refused(why) => {
-            return tell(t, refused(why), out);
-        }
-    }
-}
-
-fn flag(t: Trial, number: u8, on: bool, out: &mut [u8]) -> Trial {
-    let card = t.card;
-    if number == 0 {
-        return handled(t, card::set_flag(card, Flag::Admin, on), out);
-    }
-    if number == 1 {
-        return handled(t, card::set_flag(card, Flag::Receive, on), out);
-    }
-    if number == 2 {
-        return handled(t, card::set_flag(card, Flag::Transmit, on), out);
-    }
-    handled(t, card::set_flag(card, Flag::Several, on), out)
-}
-
-fn change(t: Trial, step: &[u8], out: &mut [u8]) -> Trial {
-    let card = t.card;
-    let number = octets::octet(step, 1);
-    let w = switches(octets::octet(step, 2));
-    handled(
-        t,
-        card::change_setting(card, number, w, octets::from(step, 3)),
-        out,
-    )
-}
-
-fn wrote(t: Trial, w: Written, end: usize, out: &mut [u8]) -> Trial {
-    let mut next = t;
-    next.at = end;
-    match w {
-        Written::Octets(n) => {
-            return tell(next, done(false, n, 0, 0), out);
-        }
-        Written::Refused(why) => {
-            return tell(next, refused(why), out);
-        }
-    }
+    next.at = tell(out, t.at, answered(answer), next.made, next.card);
+    next
 }
 
 // The lent output is the next `room` octets of `out`, as they are.
@@ -199,88 +280,29 @@ fn write(t: Trial, room: usize, out: &mut [u8]) -> Trial {
     }
     let end = place::part_end(out.len(), at, room);
     let w = card::write(t.card, &mut out[at..end]);
-    wrote(t, w, end, out)
-}
-
-fn take(t: Trial, x: Taken, out: &mut [u8]) -> Trial {
-    let answer = x.answer;
-    let card = x.card;
     let mut next = t;
-    next.card = card;
-    match answer {
-        Took::Notice(n) => {
-            let kind = n.kind;
-            let number = notices::notice_number(kind);
-            return tell(next, done(false, 0, number, n.feature), out);
-        }
-        Took::Refused(why) => {
-            return tell(next, refused(why), out);
-        }
-    }
-}
-
-fn with_sequence(x: State, sequence: u32) -> State {
-    let mut next = x;
-    next.sequence = sequence;
+    next.at = tell(out, end, wrote(w), t.made, t.card);
     next
 }
 
-// The numbers of control and of the features are set.
-fn numbers(t: Trial, step: &[u8], out: &mut [u8]) -> Trial {
-    let mut card = t.card;
-    let mut port = card.port;
-    let mut control = port.control;
-    control.seq = octets::numbers::number4(step, 1);
-    control.ack = octets::numbers::number4(step, 5);
-    control.rcvd = octets::numbers::number4(step, 9);
-    port.control = control;
-    port.groups = with_sequence(port.groups, octets::numbers::number4(step, 13));
-    port.flow = with_sequence(port.flow, octets::numbers::number4(step, 17));
-    port.applications = with_sequence(port.applications, octets::numbers::number4(step, 21));
-    card.port = port;
-    let mut next = t;
-    next.card = card;
-    tell(next, done(false, 0, 0, 0), out)
-}
-
-// The dropped count is set.
-fn dropped(t: Trial, count: u32, out: &mut [u8]) -> Trial {
-    let mut card = t.card;
-    let mut log = card.log;
-    log.dropped = count;
-    card.log = log;
-    let mut next = t;
-    next.card = card;
-    tell(next, done(false, 0, 0, 0), out)
+fn changed(t: Trial, kind: u8, step: &[u8], out: &mut [u8]) -> Trial {
+    let e = event(t.card, kind, step);
+    let card = e.card;
+    Trial {
+        made: t.made,
+        card: card,
+        at: tell(out, t.at, e.told, t.made, e.card),
+    }
 }
 
 // Runs one step and writes what it gives.
 pub fn run(t: Trial, step: &[u8], out: &mut [u8]) -> Trial {
-    let card = t.card;
     let kind = octets::octet(step, 0);
     if kind == 0 {
-        return created(t, create(step), out);
-    }
-    if kind == 1 {
-        return handled(t, card::handle(card, octets::from(step, 1)), out);
-    }
-    if kind == 2 {
-        return handled(t, card::peer_gone(card), out);
-    }
-    if kind == 3 {
-        return flag(t, octets::octet(step, 1), octets::octet(step, 2) == 1, out);
-    }
-    if kind == 4 {
-        return change(t, step, out);
+        return created(t, step, out);
     }
     if kind == 5 {
         return write(t, place::number2(step, 1), out);
     }
-    if kind == 6 {
-        return take(t, card::take(card), out);
-    }
-    if kind == 7 {
-        return numbers(t, step, out);
-    }
-    dropped(t, octets::numbers::number4(step, 1), out)
+    changed(t, kind, step, out)
 }

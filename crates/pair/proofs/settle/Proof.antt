@@ -1,13 +1,14 @@
 -- `settle` is safe and ends. Assumes nothing.
+use Prim.Native.Nat.{_-_}
 use borrow.Author.Needs.{needs}
 use Rattle.pair.proofs.settle.Statement.{statement}
 use Rattle.pair.proofs.settle.Tie as tie
 
 abbrev Inv-loop : tie.InvT-loop
-Inv-loop e₀ left₀ e left = Unit {0}
+Inv-loop pair₀ rounds₀ pair rounds = Unit {0}
 
 abbrev μ-loop : tie.MeasureT-loop
-μ-loop e₀ left₀ e left = left
+μ-loop pair₀ rounds₀ pair rounds = 5 - rounds
 
 loop-holds : tie.Need-loop-holds Inv-loop μ-loop
 loop-holds c = tt
@@ -18,8 +19,8 @@ settled-requires c κs = search needs
 round-requires : tie.Need-round-requires Inv-loop μ-loop
 round-requires c κs = search needs
 
-sub-left : tie.Need-sub-left Inv-loop μ-loop
-sub-left c = search needs
+add-rounds : tie.Need-add-rounds Inv-loop μ-loop
+add-rounds c = search needs
 
 loop-less : tie.Need-loop-less Inv-loop μ-loop
 loop-less c = search needs
@@ -28,10 +29,10 @@ loop-again : tie.Need-loop-again Inv-loop μ-loop
 loop-again c = tt
 
 returns : tie.Need-returns Inv-loop μ-loop
-returns c = tt
+returns c = search needs
 
 returns-2 : tie.Need-returns-2 Inv-loop μ-loop
-returns-2 c = tt
+returns-2 c = search needs
 
 pub settle-spec : {M : Type 1} → statement M
 settle-spec =
@@ -42,7 +43,7 @@ settle-spec =
     loop-holds
     settled-requires
     round-requires
-    sub-left
+    add-rounds
     loop-less
     loop-again
     returns

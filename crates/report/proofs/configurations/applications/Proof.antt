@@ -7,10 +7,10 @@ use Rattle.report.proofs.configurations.applications.Statement.{stateme
 use Rattle.report.proofs.configurations.applications.Tie as tie
 
 abbrev Inv-loop : tie.InvT-loop
-Inv-loop out₀ at p n to₀ i₀ t9 out to i = length out ≡ length out₀
+Inv-loop out₀ at p n to₀ i₀ out to i = length out ≡ length out₀
 
 abbrev μ-loop : tie.MeasureT-loop
-μ-loop out₀ at p n to₀ i₀ t9 out to i = n - i
+μ-loop out₀ at p n to₀ i₀ out to i = n - i
 
 slice-aggregate-text : tie.Need-slice-aggregate-text Inv-loop μ-loop
 slice-aggregate-text c = search needs
@@ -24,17 +24,8 @@ same-length c = search needs
 returns : tie.Need-returns Inv-loop μ-loop
 returns c = search needs
 
-entry-requires : tie.Need-entry-requires Inv-loop μ-loop
-entry-requires c κs = search needs
-
 loop-holds : tie.Need-loop-holds Inv-loop μ-loop
 loop-holds c = search needs
-
-slice-aggregate-text-2 : tie.Need-slice-aggregate-text-2 Inv-loop μ-loop
-slice-aggregate-text-2 c = search needs
-
-text-requires-2 : tie.Need-text-requires-2 Inv-loop μ-loop
-text-requires-2 c κs = search needs
 
 mul-from : tie.Need-mul-from Inv-loop μ-loop
 mul-from c = search needs
@@ -42,8 +33,8 @@ mul-from c = search needs
 from-requires : tie.Need-from-requires Inv-loop μ-loop
 from-requires c κs = search needs
 
-entry-requires-2 : tie.Need-entry-requires-2 Inv-loop μ-loop
-entry-requires-2 c κs = search needs
+entry-requires : tie.Need-entry-requires Inv-loop μ-loop
+entry-requires c κs = search needs
 
 add-i : tie.Need-add-i Inv-loop μ-loop
 add-i c = search needs
@@ -70,13 +61,10 @@ applications-spec =
     text-requires
     same-length
     returns
-    entry-requires
     loop-holds
-    slice-aggregate-text-2
-    text-requires-2
     mul-from
     from-requires
-    entry-requires-2
+    entry-requires
     add-i
     loop-less
     loop-again
