@@ -3,9 +3,9 @@ use card::Card;
 use card::Handled;
 use card::Took;
 use feature::Switches;
-use notices::Log;
 use port::Answer;
 use port::Flag;
+use port::Notices;
 use port::Written;
 use script::Kind;
 use script::Line;
@@ -16,46 +16,24 @@ pub struct Step {
     pub at: usize,
 }
 
-// How many notices were written between two states of a log.
-fn written(before: Log, after: Log) -> usize {
-    let held = after.count;
-    let dropped = std::num::wrapping_sub_u32(after.dropped, before.dropped) as usize;
-    let all = std::num::wrapping_add_usize(held, dropped);
-    let new = std::num::wrapping_sub_usize(all, before.count);
-    if held < new {
-        return held;
-    }
-    new
-}
-
-// The notices that an event wrote, if any.
-fn new_notices(out: &mut [u8], at: usize, before: Log, after: Log) -> usize {
-    let new = written(before, after);
-    if new == 0 {
-        return at;
-    }
-    let from = std::num::wrapping_sub_usize(after.count, new);
-    report::states::notice_lines(out, at, b"", after, from)
-}
-
-// The answer, and the notices that the event wrote.
-pub fn answered(out: &mut [u8], at: usize, before: Log, a: Answer, after: Log) -> usize {
+// The answer, and the notices that the event raised.
+pub fn answered(out: &mut [u8], at: usize, a: Answer, raised: Notices) -> usize {
     match a {
         Answer::Refused(r) => report::answers::refused(out, at, r),
         Answer::Done(send) => {
             let behind = report::answers::done(out, at, send);
-            new_notices(out, behind, before, after)
+            report::answers::raised(out, behind, raised)
         }
     }
 }
 
-// The step of an event that found the log as it was before.
-fn stepped(out: &mut [u8], at: usize, before: Log, h: Handled) -> Step {
+fn stepped(out: &mut [u8], at: usize, h: Handled) -> Step {
     let card = h.card;
     let answer = h.answer;
+    let raised = h.raised;
     Step {
         card: card,
-        at: answered(out, at, before, answer, card.log),
+        at: answered(out, at, answer, raised),
     }
 }
 
@@ -156,7 +134,7 @@ pub fn event(out: &mut [u8], at: usize, c: Card, number: u64, line: &[u8]) -> St
     match kind {
         Kind::Take => take(out, at, c),
         Kind::Frame | Kind::Gone | Kind::Flag(_, _) | Kind::Setting { .. } => {
-            stepped(out, at, c.log, change(c, line, l))
+            stepped(out, at, change(c, line, l))
         }
         _ => Step {
             card: c,

@@ -61,11 +61,11 @@ fn run(input: &mut [u8], output: &mut [u8], start: Card, first: Lines) {
         }
         let line = console::line(input, lines);
         if script::is_frame(line) {
-            let before = card.log;
             let h = console::events::handle(card, line);
             let answer = h.answer;
+            let raised = h.raised;
             card = h.card;
-            at = console::events::answered(output, p.at, before, answer, card.log);
+            at = console::events::answered(output, p.at, answer, raised);
             continue;
         }
         let step = console::events::event(output, p.at, card, lines.number, line);

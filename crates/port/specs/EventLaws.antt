@@ -26,9 +26,12 @@ use Rattle.port.specs.declared.Versions.{Versions}
 use Rattle.port.specs.declared.Answer.the-variants.{Done}
 use Rattle.port.specs.declared.Notices.{Notices}
 use Rattle.port.specs.declared.Event.{Event}
+use Rattle.notices.specs.declared.Kind.{Kind}
 use Rattle.notices.specs.declared.Kind.the-variants.{PeerGone}
+use Rattle.notices.specs.Notices.{noticeNumber}
 use Rattle.port.specs.Writing.{asks}
 use Rattle.port.specs.Parts.{featureOf, three, withControl, withFeatures, some, withFlag, flagOf, running}
+use Rattle.port.specs.Replies.{raisedNumber}
 use Rattle.port.specs.Settled.{settled}
 use Rattle.port.specs.PortEvents.{unsynced, sent, withSeq, freshControl, freshParts, freshPort, completed, noticed, becomes, raises, restarts, flagSet, withFeature, withSetting, settingChanged, noSetting, blankPort, started, silent, event, unchanged, refused, flagNotice, flagged, peerGone, setTo, changedFeature, changedSetting, made, created, settingsValid}
 
@@ -85,6 +88,15 @@ module _ (p : Port) where
     settled-by e eg ew ea =
         rw (eg, ew, ea, not-false (p .control .seen) s, eq-eqb (p .control .rcvd) (p .control .seq) e)
         (none (unsynced (p .groups)) (unsynced (p .flow)) (unsynced (p .applications)))
+
+-- ---- the number of what is raised
+
+module _ (x : Raised) where
+  pub raised-none : x ≡ raised.Nothing → 0 ≡ raisedNumber x
+  raised-none e = rw e refl
+
+  pub raised-some : {k : Kind} {n : ℕ} → x ≡ raised.Notice k → n ≡ noticeNumber k → n ≡ raisedNumber x
+  raised-some e h = rw e h
 
 -- ---- fresh states
 

@@ -6,6 +6,7 @@ ghost use Rattle.tlv.specs.declared.Refusal.the-variants.{InvalidSetting};
 ghost use Rattle.port.specs.Parts.{featureOf, withFeatures, three, flagOf, withFlag};
 ghost use Rattle.octets.specs.Words.{_is_};
 ghost use Rattle.port.specs.EventLaws.{counted};
+ghost use Rattle.port.specs.Replies.{raisedNumber};
 ghost use Rattle.port.specs.Settled.{settled};
 ghost use Rattle.port.specs.PortEvents.{unsynced, sent, freshControl, freshParts, freshPort, completed, noticed, becomes, raises, silent, refused, unchanged, flagNotice, restarts, flagSet, withFeature, withSetting, settingChanged, blankPort, started, event, flagged, peerGone, setTo, changedFeature, changedSetting, made, created};
 use crate::Answer;
@@ -210,6 +211,16 @@ pub fn raise(x: Raised, before: Port, after: Port) -> Notices
         groups: g,
         flow: w,
         applications: a,
+    }
+}
+
+// The number of a notice that was raised, 0 for none.
+pub fn raised_number(x: Raised) -> u8
+    ensures { λ r. ⌜ r ≡ raisedNumber x ⌝ }
+{
+    match x {
+        Raised::Nothing => 0,
+        Raised::Notice(kind) => notices::notice_number(kind),
     }
 }
 

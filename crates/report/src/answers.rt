@@ -1,19 +1,40 @@
 // Answers: `done`, `refused`, notices.
 use crate::forms;
 use notices::Notice;
+use port::Notices;
+use port::Raised;
 use tlv::Refusal;
 
 // `notice N NAME WHERE`: the name goes by the number, and where by the number of the feature, 0 for the port.
-pub fn notice(out: &mut [u8], at: usize, n: Notice) -> usize {
-    let kind = n.kind;
-    let number = notices::notice_number(kind) as u64;
-    let numbers = [number, number, n.feature as u64];
+fn numbered(out: &mut [u8], at: usize, number: u8, feature: u8) -> usize {
+    let numbers = [number as u64, number as u64, feature as u64];
     forms::put(
         out,
         at,
         b"notice # [||bad|several-neighbours|transmit-off|receive-off|duplicate-control|duplicate|absent|peer-gone|not-compatible] [port||groups|flow|applications]\n",
         &numbers,
     )
+}
+
+pub fn notice(out: &mut [u8], at: usize, n: Notice) -> usize {
+    let kind = n.kind;
+    numbered(out, at, notices::notice_number(kind), n.feature)
+}
+
+fn raised_one(out: &mut [u8], at: usize, x: Raised, feature: u8) -> usize {
+    let number = port::events::raised_number(x);
+    if number == 0 {
+        return at;
+    }
+    numbered(out, at, number, feature)
+}
+
+// The notices that an event raised, a line each: the port's, then by ascending feature.
+pub fn raised(out: &mut [u8], at: usize, n: Notices) -> usize {
+    let a = raised_one(out, at, n.port, 0);
+    let b = raised_one(out, a, n.groups, 2);
+    let c = raised_one(out, b, n.flow, 3);
+    raised_one(out, c, n.applications, 4)
 }
 
 // `refused N`

@@ -17,7 +17,8 @@
 // 8 dropped count (4 octets); no event of document 01
 //
 // What a step writes: of a write the lent output; then refusal or 0, whether a send is asked, the length of a written
-// frame (2 octets), number and feature of a notice taken; then the state as in tests/reference/src/dump.rs, or nothing
+// frame (2 octets), number and feature of a notice taken, the numbers of the notices raised (of the port and of features 2, 3
+// and 4, 0 for none); then the state as in tests/reference/src/dump.rs, or nothing
 // where no creation was accepted yet.
 ghost use Prim.Native.Nat.{_<_, _≤_};
 ghost use lib.ListN.{length};

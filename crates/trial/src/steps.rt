@@ -10,6 +10,7 @@ use notices::Log;
 use port::Answer;
 use port::Control;
 use port::Flag;
+use port::Notices;
 use port::Port;
 use port::Versions;
 use port::Written;
@@ -22,13 +23,15 @@ pub struct Trial {
     pub at: usize,
 }
 
-// What is written of an answer before the state.
+// What is written of an answer before the state; `raised` has the numbers of the notices raised, of the port and of features 2
+// to 4, 0 for none.
 struct Told {
     refusal: u8,
     wish: bool,
     length: usize,
     notice: u8,
     feature: u8,
+    raised: [u8; 4],
 }
 
 // What a step that lends no output gives: what is told of it, and the card behind it.
@@ -96,6 +99,7 @@ fn refused(why: Refusal) -> Told {
         length: 0,
         notice: 0,
         feature: 0,
+        raised: [0; 4],
     }
 }
 
@@ -106,7 +110,16 @@ fn done(wish: bool, length: usize, notice: u8, feature: u8) -> Told {
         length: length,
         notice: notice,
         feature: feature,
+        raised: [0; 4],
     }
+}
+
+fn raised(n: Notices) -> [u8; 4] {
+    let port = port::events::raised_number(n.port);
+    let groups = port::events::raised_number(n.groups);
+    let flow = port::events::raised_number(n.flow);
+    let applications = port::events::raised_number(n.applications);
+    [port, groups, flow, applications]
 }
 
 fn put_told(out: &mut [u8], at: usize, x: Told) -> usize {
@@ -118,7 +131,8 @@ fn put_told(out: &mut [u8], at: usize, x: Told) -> usize {
         x.notice,
         x.feature,
     ];
-    place::put_all(out, at, &octets)
+    let behind = place::put_all(out, at, &octets);
+    place::put_all(out, behind, &x.raised)
 }
 
 // Writes what is told, then the state of the card, once one was made.
@@ -130,9 +144,13 @@ fn tell(out: &mut [u8], at: usize, told: Told, made: bool, card: Card) -> usize 
     behind
 }
 
-fn answered(x: Answer) -> Told {
+fn answered(x: Answer, n: Notices) -> Told {
     match x {
-        Answer::Done(wish) => done(wish, 0, 0, 0),
+        Answer::Done(wish) => {
+            let mut told = done(wish, 0, 0, 0);
+            told.raised = raised(n);
+            told
+        }
         Answer::Refused(why) => refused(why),
     }
 }
@@ -233,7 +251,7 @@ fn event(c: Card, kind: u8, step: &[u8]) -> Given {
         let answer = h.answer;
         let card = h.card;
         return Given {
-            told: answered(answer),
+            told: answered(answer, h.raised),
             card: card,
         };
     }
@@ -268,7 +286,7 @@ fn created(t: Trial, step: &[u8], out: &mut [u8]) -> Trial {
         next.made = true;
         next.card = card;
     }
-    next.at = tell(out, t.at, answered(answer), next.made, next.card);
+    next.at = tell(out, t.at, answered(answer, h.raised), next.made, next.card);
     next
 }
 

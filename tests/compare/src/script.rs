@@ -2,7 +2,7 @@
 //! that it gives. crates/trial/src/lib.rt describes both.
 
 use reference::events::{Answer, Event, OwnedSetting, OwnedSettings};
-use reference::{Card, Flag};
+use reference::{Card, Flag, Notice};
 
 /// What every octet of the output holds before a run, and so what a write finds.
 pub use reference::events::FILL;
@@ -35,6 +35,7 @@ impl Script {
         self.expected.extend([answer.refusal, u8::from(answer.wish)]);
         self.expected.extend((answer.length as u16).to_be_bytes());
         self.expected.extend([answer.notice.0, answer.notice.1]);
+        self.expected.extend(raised_numbers(&answer.raised));
         if let Some(card) = card {
             self.expected.extend(card.dump());
         }
@@ -56,6 +57,13 @@ impl Script {
         let same = had.iter().zip(&self.expected).take_while(|(a, b)| a == b).count();
         Some(self.starts.partition_point(|&start| start <= same) - 1)
     }
+}
+
+/// The number of the port's notice and of each feature's, 0 for none.
+fn raised_numbers(raised: &[Notice]) -> [u8; 4] {
+    [0, 2, 3, 4].map(|feature| {
+        raised.iter().find(|notice| notice.feature == feature).map_or(0, |notice| notice.number)
+    })
 }
 
 fn switches(setting: &OwnedSetting) -> u8 {

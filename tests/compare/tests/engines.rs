@@ -6,7 +6,7 @@
 use compare::{engine, environment, script, words, Script, Step};
 use reference::events::{assemble, Answer, Event, Generator, OwnedSetting, OwnedSettings};
 use reference::rng::XorShift;
-use reference::{Card, Reason};
+use reference::{Card, Notice, Reason};
 
 const SEED: u64 = 0x0dcb_0101;
 const EVENTS: u64 = 3_000_000;
@@ -26,13 +26,9 @@ struct Coverage {
 
 impl Coverage {
     /// What an event did that left the card in its place.
-    fn note(&mut self, before: &Card, after: &Card) {
+    fn note(&mut self, before: &Card, after: &Card, raised: &[Notice]) {
         let (was, is) = (before.log(), after.log());
-        let pushed = match is.dropped() - was.dropped() {
-            0 => is.held().saturating_sub(was.held()),
-            dropped => dropped as usize + is.held() - was.held(),
-        };
-        for notice in is.notices().skip(is.held() - pushed) {
+        for notice in raised {
             self.notices[usize::from(notice.number)] += 1;
         }
         self.dropped += u32::from(is.dropped() != was.dropped());
@@ -147,7 +143,7 @@ fn the_engines_agree() {
         coverage.refusals[usize::from(answer.refusal)] += 1;
         if let (Step::Event(_), Some(before), Some(after), false) = (&step, &before, after, created)
         {
-            coverage.note(before, after);
+            coverage.note(before, after, &answer.raised);
         }
         script.push(step, &answer, after);
         before = after.cloned();

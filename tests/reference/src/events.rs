@@ -8,6 +8,7 @@ use crate::layout::{
     self, APPLICATIONS, CONTROL, ENABLE, FLOW_CONTROL, MOST_ENTRIES, OUI, PRIORITY_GROUPS, SUBTYPE,
     TLV_TYPE, WILLING,
 };
+use crate::log::Notice;
 use crate::port::{Card, Flag};
 use crate::rng::XorShift;
 use crate::settings::{Setting, Settings};
@@ -84,6 +85,8 @@ pub struct Answer {
     pub notice: (u8, u8),
     /// The whole lent output after a write.
     pub output: Vec<u8>,
+    /// The notices that the event raised, in order.
+    pub raised: Vec<Notice>,
 }
 
 impl Answer {
@@ -95,6 +98,7 @@ impl Answer {
             length: 0,
             notice: (0, 0),
             output: Vec::new(),
+            raised: Vec::new(),
         }
     }
 }
@@ -115,6 +119,12 @@ impl Event {
             };
         }
         let card = place.as_mut().expect("a card");
+        let before = card.log().written();
+        let answer = self.apply_to(card);
+        Answer { raised: card.log().since(before).collect(), ..answer }
+    }
+
+    fn apply_to(&self, card: &mut Card) -> Answer {
         match self {
             Event::Create(_) => unreachable!(),
             Event::Frame(octets) => Answer::plain(card.frame(octets)),

@@ -2,7 +2,7 @@
 
 use reference::layout::{Parameters, APPLICATIONS, FLOW_CONTROL, PRIORITY_GROUPS};
 use reference::text::{self, Lines, Text};
-use reference::{Card, Feature, Flag, Log};
+use reference::{Card, Feature, Flag};
 use std::io;
 
 /// The most octets of a frame, of parameters and of an output that a line names.
@@ -98,15 +98,12 @@ impl Desk {
         out: &mut Text,
         event: impl FnOnce(&mut Card, &[u8]) -> Result<bool, u8>,
     ) -> Option<()> {
-        let written = |log: &Log| log.held() as u64 + u64::from(log.dropped());
-        let before = written(self.card.log());
+        let before = self.card.log().written();
         match event(&mut self.card, &self.octets) {
             Ok(wish) => out.put(if wish { "done send\n" } else { "done\n" }),
             Err(number) => out.put("refused ").number(number).put("\n"),
         };
-        let log = self.card.log();
-        let new = (written(log) - before) as usize;
-        for notice in log.notices().skip(log.held() - new) {
+        for notice in self.card.log().since(before) {
             out.notice(notice);
         }
         Some(())
