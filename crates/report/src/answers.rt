@@ -31,10 +31,14 @@ fn raised_one(out: &mut [u8], at: usize, x: Raised, feature: u8) -> usize {
 
 // The notices that an event raised, a line each: the port's, then by ascending feature.
 pub fn raised(out: &mut [u8], at: usize, n: Notices) -> usize {
-    let a = raised_one(out, at, n.port, 0);
-    let b = raised_one(out, a, n.groups, 2);
-    let c = raised_one(out, b, n.flow, 3);
-    raised_one(out, c, n.applications, 4)
+    let port = n.port;
+    let groups = n.groups;
+    let flow = n.flow;
+    let applications = n.applications;
+    let a = raised_one(out, at, port, 0);
+    let b = raised_one(out, a, groups, 2);
+    let c = raised_one(out, b, flow, 3);
+    raised_one(out, c, applications, 4)
 }
 
 // `refused N`

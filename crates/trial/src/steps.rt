@@ -115,11 +115,15 @@ fn done(wish: bool, length: usize, notice: u8, feature: u8) -> Told {
 }
 
 fn raised(n: Notices) -> [u8; 4] {
-    let port = port::events::raised_number(n.port);
-    let groups = port::events::raised_number(n.groups);
-    let flow = port::events::raised_number(n.flow);
-    let applications = port::events::raised_number(n.applications);
-    [port, groups, flow, applications]
+    let port = n.port;
+    let groups = n.groups;
+    let flow = n.flow;
+    let applications = n.applications;
+    let of_port = port::events::raised_number(port);
+    let of_groups = port::events::raised_number(groups);
+    let of_flow = port::events::raised_number(flow);
+    let of_applications = port::events::raised_number(applications);
+    [of_port, of_groups, of_flow, of_applications]
 }
 
 fn put_told(out: &mut [u8], at: usize, x: Told) -> usize {
@@ -148,7 +152,8 @@ fn answered(x: Answer, n: Notices) -> Told {
     match x {
         Answer::Done(wish) => {
             let mut told = done(wish, 0, 0, 0);
-            told.raised = raised(n);
+            let numbers = raised(n);
+            told.raised = numbers;
             told
         }
         Answer::Refused(why) => refused(why),
@@ -249,9 +254,10 @@ fn event(c: Card, kind: u8, step: &[u8]) -> Given {
     if kind < 5 {
         let h = handle(c, kind, step);
         let answer = h.answer;
+        let notices = h.raised;
         let card = h.card;
         return Given {
-            told: answered(answer, h.raised),
+            told: answered(answer, notices),
             card: card,
         };
     }
@@ -280,13 +286,14 @@ fn is_done(x: Answer) -> bool {
 fn created(t: Trial, step: &[u8], out: &mut [u8]) -> Trial {
     let h = create(step);
     let answer = h.answer;
+    let notices = h.raised;
     let card = h.card;
     let mut next = t;
     if is_done(answer) {
         next.made = true;
         next.card = card;
     }
-    next.at = tell(out, t.at, answered(answer, h.raised), next.made, next.card);
+    next.at = tell(out, t.at, answered(answer, notices), next.made, next.card);
     next
 }
 
