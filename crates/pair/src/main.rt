@@ -1,17 +1,17 @@
 // Will two ends agree? Reads the settings of A and of B, runs rounds until both ends are settled, and reports (docs/FORMATS.md).
+use card::Card;
 use console::settings::Settings;
 use exchange::Pair;
 use feature::State;
-use notices::Log;
 use parameters::Feature;
-use port::Port;
 
 // Five rounds are always enough (01, Rounds of two ends).
 const ROUNDS: u64 = 5;
 
 // Two ends of a cable, after so many rounds.
 struct Ends {
-    pair: Pair,
+    a: Card,
+    b: Card,
     rounds: u64,
 }
 
@@ -39,8 +39,11 @@ fn settle(start: Pair) -> Ends {
         pair = round(pair);
         rounds += 1;
     }
+    let a = pair.left;
+    let b = pair.right;
     Ends {
-        pair: pair,
+        a: a,
+        b: b,
         rounds: rounds,
     }
 }
@@ -59,7 +62,8 @@ struct Open {
     applications: bool,
 }
 
-fn open_features(p: Port) -> Open {
+fn open_features(c: Card) -> Open {
+    let p = c.port;
     Open {
         groups: is_open(p.groups),
         flow: is_open(p.flow),
@@ -96,35 +100,33 @@ fn control_line(out: &mut [u8], at: usize, name: &[u8], version: u8) -> usize {
 }
 
 // What an end has come to; each line begins with its name.
-fn end_lines(out: &mut [u8], at: usize, name: &[u8], p: Port, log: Log) -> usize {
+fn end_lines(out: &mut [u8], at: usize, name: &[u8], c: Card) -> usize {
+    let p = c.port;
     let k = p.control;
     let a = control_line(out, at, name, k.oper);
     let b = report::configurations::feature_line(out, a, name, Feature::Groups, p.groups);
-    let c = report::configurations::feature_line(out, b, name, Feature::Flow, p.flow);
-    let d = report::configurations::feature_line(
+    let d = report::configurations::feature_line(out, b, name, Feature::Flow, p.flow);
+    let e = report::configurations::feature_line(
         out,
-        c,
+        d,
         name,
         Feature::Applications,
         p.applications,
     );
-    report::states::notice_lines(out, d, name, log, 0)
+    report::states::notice_lines(out, e, name, c.log, 0)
 }
 
 // The whole report.
-fn report_on(out: &mut [u8], e: Ends) -> usize {
-    let pair = e.pair;
-    let a = pair.left;
-    let b = pair.right;
-    let first = verdict(
-        out,
-        0,
-        e.rounds,
-        open_features(a.port),
-        open_features(b.port),
-    );
-    let second = end_lines(out, first, b"A ", a.port, a.log);
-    end_lines(out, second, b"B ", b.port, b.log)
+fn report_on(out: &mut [u8], rounds: u64, a: Card, b: Card) -> usize {
+    let first = verdict(out, 0, rounds, open_features(a), open_features(b));
+    let second = end_lines(out, first, b"A ", a);
+    end_lines(out, second, b"B ", b)
+}
+
+// Creates both ends, lets them exchange frames, and reports; the place behind the report.
+fn compared(out: &mut [u8], x: Settings, y: Settings) -> usize {
+    let e = settle(create(x, y));
+    report_on(out, e.rounds, e.a, e.b)
 }
 
 // The report on settings that were read, or what is wrong with them.
@@ -137,7 +139,7 @@ fn judged(out: &mut [u8], x: Settings, y: Settings) -> usize {
     if wrong != 0 {
         return report::answers::refused_setting(out, 0, wrong);
     }
-    report_on(out, settle(create(x, y)))
+    compared(out, x, y)
 }
 
 // Reads both ends, and gives the place behind what is to be said.

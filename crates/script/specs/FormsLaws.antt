@@ -18,6 +18,46 @@ use Rattle.script.specs.declared.text.Number.the-variants.{Is, Not}
 use Rattle.script.specs.Text.{number, hexDigits, isOctets, pairAt}
 use Rattle.script.specs.Forms.{fieldNumber, fits, due, parameterCount, entryOctet, parameterAt}
 
+-- ---- what a form or a field is said to be
+
+pub field-as : (f g : Field) (w : List ℕ) {r : Number} → f ≡ g → r ≡ fieldNumber g w → r ≡ fieldNumber f w
+field-as f g w e h = rw e h
+
+pub field-decimal : (f : Field) (w : List ℕ) {r : Number} {limit : ℕ} → f ≡ Decimal limit → r ≡ number limit w → r ≡ fieldNumber f w
+unfolding fieldNumber
+field-decimal f w e h = h ∙ rw e
+
+pub due-as : (f g : Form) (i : ℕ) {r : Field} → f ≡ g → r ≡ due g i → r ≡ due f i
+due-as f g i e h = rw e h
+
+module _ (f : Form) (n : ℕ) where
+  pub fits-groups : f ≡ Groups → eqb n 20 ≡ fits f n
+  unfolding fits
+  fits-groups e = rw e
+
+  pub fits-flow : f ≡ Flow → eqb n 5 ≡ fits f n
+  unfolding fits
+  fits-flow e = rw e
+
+  pub fits-as : (g : Form) {r : Bool} → f ≡ g → r ≡ fits g n → r ≡ fits f n
+  fits-as g e h = rw e h
+
+module _ (f : Form) (v : List ℕ) (i : ℕ) {r : ℕ} where
+  pub parameter-groups : f ≡ Groups → r ≡ parameterAt Groups v i → r ≡ parameterAt f v i
+  parameter-groups e h = rw e h
+
+  pub parameter-flow : {x : ℕ} → f ≡ Flow → x ≡ at v (3 + i) → r ≡ x % 256 → r ≡ parameterAt f v i
+  unfolding parameterAt
+  parameter-flow e g h = h ∙ rw (e, g)
+
+  pub parameter-applications : f ≡ Applications → r ≡ entryOctet v (3 + i / 6 * 3) (i % 6) → r ≡ parameterAt f v i
+  unfolding parameterAt
+  parameter-applications e h = h ∙ rw e
+
+pub parameter-plain : (f : Form) (v : List ℕ) (i : ℕ) → f ≡ Plain → 0 ≡ parameterAt f v i
+unfolding parameterAt
+parameter-plain f v i e = rw e
+
 -- ---- one word
 
 module _ (w : List ℕ) where

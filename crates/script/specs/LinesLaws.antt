@@ -9,6 +9,7 @@ use lib.ListN.{length, take, drop, replicate}
 use borrow.Author.Tests.{lt-ltb, le-ltb, eq-eqb, ne-eqb, not-true, not-false, leb-true, leb-false}
 use Rattle.octets.specs.Words.{if_then_else_, _is_}
 use Rattle.octets.specs.Octets.{at, same}
+use Rattle.script.specs.declared.forms.Field.the-variants.{Bit, Decimal}
 use Rattle.script.specs.declared.forms.Form.{Form}
 use Rattle.script.specs.declared.forms.Form.the-variants as Form
 use Rattle.script.specs.declared.forms.Values.{Values}
@@ -24,8 +25,8 @@ use Rattle.script.specs.declared.Kind.{Kind}
 use Rattle.script.specs.declared.Kind.the-variants as Kind
 use Rattle.script.specs.declared.Line.{Line}
 use Rattle.script.specs.Text.{words, first, others, number, listed, isOctets, octetsOf}
-use Rattle.script.specs.Forms.{fits, allDue, numbersFrom, noValues, counted, valuesOf, parameterCount, parameterAt, parametersOf}
-use Rattle.script.specs.Lines.{passedOver, filled, lineOf, bare, unreadable, settingKind, settingWith, feature, plain, partName, settingOf, settingLine, goneWord, takeWord, showWord, setWord, writeWord, adminWord, receiveWord, transmitWord, severalWord, flagWord, keyword, alone, flag, formOf, changeOf, eventOf, isFrame, eventLine}
+use Rattle.script.specs.Forms.{oneField, fits, allDue, numbersFrom, noValues, counted, valuesOf, parameterCount, parameterAt, parametersOf}
+use Rattle.script.specs.Lines.{passedOver, filled, lineOf, bare, unreadable, settingKind, settingWith, feature, plain, partName, control, settingOf, settingLine, goneWord, takeWord, showWord, setWord, writeWord, adminWord, receiveWord, transmitWord, severalWord, flagWord, keyword, alone, flag, write, formOf, changeOf, eventOf, isFrame, eventLine}
 use Rattle.script.specs.StepsLaws.{firstWord, rest}
 use Rattle.script.specs.TextLaws.{length-listed}
 use Rattle.script.specs.WordsLaws.{first-word, other-words}
@@ -104,9 +105,30 @@ pub alone-not : (k : Kind) (s : List ℕ) {b : Bool} {l : Line} → b ≡ eqb (l
 unfolding alone
 alone-not k s e t h = h ∙ simp (sym e ∙ t)
 
+pub flag-not : (x : Flag) {n : Number} {l : Line} → n ≡ Not → l ≡ unreadable → l ≡ flag x n
+unfolding flag
+flag-not x e h = h ∙ rw e
+
 pub flag-read : (x : Flag) {n : Number} {k : ℕ} {l : Line} → n ≡ Is k → l ≡ bare (Kind.Flag x (k is 1)) → l ≡ flag x n
 unfolding flag
 flag-read x e h = h ∙ simp e
+
+module _ {n : Number} {l : Line} where
+  pub write-not : n ≡ Not → l ≡ unreadable → l ≡ write n
+  unfolding write
+  write-not e h = h ∙ rw e
+
+  pub write-read : {k : ℕ} → n ≡ Is k → l ≡ bare (Kind.Write k) → l ≡ write n
+  unfolding write
+  write-read e h = h ∙ rw e
+
+  pub control-not : n ≡ Not → l ≡ unreadable → l ≡ control n
+  unfolding control
+  control-not e h = h ∙ rw e
+
+  pub control-read : {k m : ℕ} → n ≡ Is k → m ≡ k % 256 → l ≡ bare (Kind.Control m) → l ≡ control n
+  unfolding control
+  control-read e g h = h ∙ rw (e, g)
 
 -- the name of a line of the settings
 pub part-named : (p q : Part) (w : List ℕ) {b : Bool} → p ≡ q → b ≡ same w (partName q) → b ≡ same w (partName p)
@@ -175,6 +197,10 @@ module _ (s : List ℕ) where
 
 -- ---- the words behind the first
 
+pub setting-control : (p : Part) (s : List ℕ) {n : Number} {l : Line} → p ≡ Part.Control → n ≡ oneField (Decimal 255) (words s) → l ≡ control n → l ≡ settingOf p (words s)
+unfolding settingOf
+setting-control p s e g h = h ∙ rw (e, g)
+
 module _ (p : Part) (s : List ℕ) {x : Number} {w more : List ℕ} {l : Line} where
   pub setting-groups : p ≡ Part.Groups → w ≡ firstWord s → x ≡ number 255 w → more ≡ rest s → l ≡ feature Form.Groups x (words more) → l ≡ settingOf p (words s)
   unfolding settingOf
@@ -204,6 +230,35 @@ module _ (s : List ℕ) {f : Form} {w more : List ℕ} {l : Line} where
   pub change-plain : {x : Number} → w ≡ firstWord s → f ≡ formOf w → f ≡ Form.Plain → more ≡ rest s → x ≡ number 255 w → l ≡ plain x (words more) → l ≡ changeOf (formOf (first (words s))) (words s)
   unfolding changeOf
   change-plain h e t m n k = let z : formOf (firstWord s) ≡ Form.Plain = rw (← h) (sym e ∙ t) in k ∙ simp (first-word s, z, other-words s, m, n, h)
+
+module _ (k : Keyword) (s : List ℕ) {l : Line} where
+  pub event-gone : k ≡ Keyword.Gone → l ≡ alone Kind.Gone (words s) → l ≡ eventOf k (words s)
+  unfolding eventOf
+  event-gone e h = h ∙ rw e
+
+  pub event-take : k ≡ Keyword.Take → l ≡ alone Kind.Take (words s) → l ≡ eventOf k (words s)
+  unfolding eventOf
+  event-take e h = h ∙ rw e
+
+  pub event-show : k ≡ Keyword.Show → l ≡ alone Kind.Show (words s) → l ≡ eventOf k (words s)
+  unfolding eventOf
+  event-show e h = h ∙ rw e
+
+  pub event-set : k ≡ Keyword.Set → l ≡ changeOf (formOf (first (words s))) (words s) → l ≡ eventOf k (words s)
+  unfolding eventOf
+  event-set e h = h ∙ rw e
+
+  pub event-write : {n : Number} → k ≡ Keyword.Write → n ≡ oneField (Decimal 1000) (words s) → l ≡ write n → l ≡ eventOf k (words s)
+  unfolding eventOf
+  event-write e g h = h ∙ rw (e, g)
+
+  pub event-flag : {x : Flag} {n : Number} → k ≡ Keyword.Flag x → n ≡ oneField Bit (words s) → l ≡ flag x n → l ≡ eventOf k (words s)
+  unfolding eventOf
+  event-flag e g h = h ∙ rw (e, g)
+
+  pub event-other : k ≡ Keyword.Other → l ≡ unreadable → l ≡ eventOf k (words s)
+  unfolding eventOf
+  event-other e h = h ∙ rw e
 
 -- ---- whole lines
 

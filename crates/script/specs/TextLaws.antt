@@ -7,7 +7,7 @@ use mathlib.Core.Path.{_≡_, refl, sym, ap, _∙_}
 use mathlib.Core.Bool.{Bool, true, false, not, _&&_, Bool·beq}
 use mathlib.Core.List.{List, [], _∷_, _++_}
 use lib.Dec.{leb, eqb}
-use lib.ListN.{length, drop, set, replicate, drop-of-length-le, length-set, length-replicate}
+use lib.ListN.{length, take, drop, set, replicate, drop-of-length-le, length-set, length-replicate}
 use lib.Seq.{drop-cons, set-at, append-snoc, getD-set-same, getD-set-other}
 use borrow.Author.Tests.{le-leb, lt-leb, eq-eqb, ne-eqb, leb-true, eqb-true, eqb-false, not-true, not-false}
 use Rattle.octets.specs.Words.{if_then_else_, _below_, _atmost_, _is_}
@@ -16,7 +16,7 @@ use Rattle.octets.specs.Laws.{and-left}
 use Rattle.script.specs.declared.text.Number.the-variants.{Is, Not}
 use Rattle.script.specs.Text.{isDigit, decimalDigits, decimalFrom, decimal, isNumber, number, nibble, hexDigits, isOctets, pairAt, listed, octetsOf}
 use Rattle.script.specs.Lines.{filled}
-use Rattle.script.specs.StepsLaws.{run, Nibbles}
+use Rattle.script.specs.StepsLaws.{run, firstWord, rest, Nibbles}
 
 -- ---- digits
 
@@ -284,3 +284,18 @@ joined-is {high} {low} {x} {y} e g h =
 pub joining : {w v : List ℕ} {i n x : ℕ} → Nibbles w v → i < n → n ≡ min (length w / 2) 513 → x ≡ (at v (2 * i) * 16 + at v (2 * i + 1)) % 256 → x ≡ pairAt w i
 unfolding pairAt
 joining {w} {v} {i} r h m e = e ∙ rw (r .value (2 * i) (omega arith), r .value (2 * i + 1) (omega arith)) (omega arith)
+
+-- ---- steps along a line
+
+module _ (s : List ℕ) {n m : ℕ} {t r : List ℕ} where
+  pub word-found : n ≡ run true s → t ≡ drop n s → m ≡ run false t → r ≡ take m t → r ≡ firstWord s
+  unfolding firstWord
+  word-found a b c d = d ∙ rw (c, b, a)
+
+  pub behind-found : n ≡ run true s → t ≡ drop n s → m ≡ run false t → r ≡ drop m t → r ≡ rest s
+  unfolding rest
+  behind-found a b c d = d ∙ rw (c, b, a)
+
+pub pair-read : (w : List ℕ) (i : ℕ) {x y h l : ℕ} → x ≡ at w (2 * i) → h ≡ nibble x → y ≡ at w (2 * i + 1) → l ≡ nibble y → h % 16 * 16 + l % 16 ≡ pairAt w i
+unfolding pairAt
+pair-read w i a b c d = rw (b, a, d, c)

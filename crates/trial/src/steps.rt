@@ -3,6 +3,7 @@ use crate::place;
 use crate::state;
 use card::Card;
 use card::Handled;
+use card::Taken;
 use card::Took;
 use feature::State;
 use feature::Switches;
@@ -249,31 +250,41 @@ fn set(c: Card, kind: u8, step: &[u8]) -> Card {
     next
 }
 
+fn given_handled(h: Handled) -> Given {
+    let answer = h.answer;
+    let notices = h.raised;
+    let card = h.card;
+    Given {
+        told: answered(answer, notices),
+        card: card,
+    }
+}
+
+fn given_taken(t: Taken) -> Given {
+    let answer = t.answer;
+    let card = t.card;
+    Given {
+        told: took(answer),
+        card: card,
+    }
+}
+
+fn given_set(c: Card) -> Given {
+    Given {
+        told: done(false, 0, 0, 0),
+        card: c,
+    }
+}
+
 // Every step that lends no output and creates no card.
 fn event(c: Card, kind: u8, step: &[u8]) -> Given {
     if kind < 5 {
-        let h = handle(c, kind, step);
-        let answer = h.answer;
-        let notices = h.raised;
-        let card = h.card;
-        return Given {
-            told: answered(answer, notices),
-            card: card,
-        };
+        return given_handled(handle(c, kind, step));
     }
     if kind == 6 {
-        let t = card::take(c);
-        let answer = t.answer;
-        let card = t.card;
-        return Given {
-            told: took(answer),
-            card: card,
-        };
+        return given_taken(card::take(c));
     }
-    Given {
-        told: done(false, 0, 0, 0),
-        card: set(c, kind, step),
-    }
+    given_set(set(c, kind, step))
 }
 
 fn is_done(x: Answer) -> bool {

@@ -1,5 +1,5 @@
 -- `control` meets its contract. Assumes nothing.
-use Rattle.script.specs.Lines.{control}
+use Rattle.script.specs.LinesLaws.{control-not, control-read}
 use borrow.Author.Needs.{needs}
 use Rattle.script.proofs.control.Statement.{statement}
 use Rattle.script.proofs.control.Tie as tie
@@ -20,12 +20,10 @@ bare-requires-2 : tie.Need-bare-requires-2
 bare-requires-2 c κs = search needs
 
 returns : tie.Need-returns
-unfolding control
-returns c = cc
+returns c = search control-not
 
 returns-2 : tie.Need-returns-2
-unfolding control
-returns-2 c = cc
+returns-2 c = search control-read
 
 pub control-spec : {M : Type 1} → statement M
 control-spec =

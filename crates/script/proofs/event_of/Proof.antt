@@ -1,5 +1,5 @@
 -- `event_of` meets its contract. Assumes nothing.
-use Rattle.script.specs.Lines.{eventOf}
+use Rattle.script.specs.LinesLaws.{event-gone, event-take, event-show, event-set, event-write, event-flag, event-other}
 use borrow.Author.Needs.{needs}
 use Rattle.script.proofs.event_of.Statement.{statement}
 use Rattle.script.proofs.event_of.Tie as tie
@@ -53,32 +53,25 @@ bare-requires : tie.Need-bare-requires
 bare-requires c κs = search needs
 
 returns : tie.Need-returns
-unfolding eventOf
-returns c = cc
+returns c = search event-gone
 
 returns-2 : tie.Need-returns-2
-unfolding eventOf
-returns-2 c = cc
+returns-2 c = search event-take
 
 returns-3 : tie.Need-returns-3
-unfolding eventOf
-returns-3 c = cc
+returns-3 c = search event-show
 
 returns-4 : tie.Need-returns-4
-unfolding eventOf
-returns-4 c = cc
+returns-4 c = search event-set
 
 returns-5 : tie.Need-returns-5
-unfolding eventOf
-returns-5 c = cc
+returns-5 c = search event-write
 
 returns-6 : tie.Need-returns-6
-unfolding eventOf
-returns-6 c = cc
+returns-6 c = search event-flag
 
 returns-7 : tie.Need-returns-7
-unfolding eventOf
-returns-7 c = cc
+returns-7 c = search event-other
 
 pub event-of-spec : {M : Type 1} → statement M
 event-of-spec =

@@ -1,6 +1,5 @@
 -- `flag_line` meets its contract. Assumes nothing.
-use Rattle.script.specs.LinesLaws.{flag-read}
-use Rattle.script.specs.Lines.{flag}
+use Rattle.script.specs.LinesLaws.{flag-not, flag-read}
 use borrow.Author.Needs.{needs}
 use Rattle.script.proofs.flag_line.Statement.{statement}
 use Rattle.script.proofs.flag_line.Tie as tie
@@ -18,11 +17,9 @@ bare-requires-2 : tie.Need-bare-requires-2
 bare-requires-2 c κs = search needs
 
 returns : tie.Need-returns
-unfolding flag
-returns c = cc
+returns c = search flag-not
 
 returns-2 : tie.Need-returns-2
-unfolding flag
 returns-2 c = search flag-read
 
 pub flag-line-spec : {M : Type 1} → statement M

@@ -1,6 +1,5 @@
 -- `setting_of` meets its contract. Assumes nothing.
-use Rattle.script.specs.LinesLaws.{setting-groups, setting-flow, setting-applications}
-use Rattle.script.specs.Lines.{settingOf}
+use Rattle.script.specs.LinesLaws.{setting-control, setting-groups, setting-flow, setting-applications}
 use borrow.Author.Needs.{needs}
 use Rattle.script.proofs.setting_of.Statement.{statement}
 use Rattle.script.proofs.setting_of.Tie as tie
@@ -42,8 +41,7 @@ feature-requires-3 : tie.Need-feature-requires-3
 feature-requires-3 c κs = search needs
 
 returns : tie.Need-returns
-unfolding settingOf
-returns c = cc
+returns c = search setting-control
 
 returns-2 : tie.Need-returns-2
 returns-2 c = search setting-groups

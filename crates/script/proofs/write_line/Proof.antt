@@ -1,5 +1,5 @@
 -- `write_line` meets its contract. Assumes nothing.
-use Rattle.script.specs.Lines.{write}
+use Rattle.script.specs.LinesLaws.{write-not, write-read}
 use borrow.Author.Needs.{needs}
 use Rattle.script.proofs.write_line.Statement.{statement}
 use Rattle.script.proofs.write_line.Tie as tie
@@ -17,12 +17,10 @@ bare-requires-2 : tie.Need-bare-requires-2
 bare-requires-2 c κs = search needs
 
 returns : tie.Need-returns
-unfolding write
-returns c = cc
+returns c = search write-not
 
 returns-2 : tie.Need-returns-2
-unfolding write
-returns-2 c = cc
+returns-2 c = search write-read
 
 pub write-line-spec : {M : Type 1} → statement M
 write-line-spec =

@@ -1,4 +1,5 @@
 -- `due` meets its contract. Assumes nothing.
+use Rattle.script.specs.FormsLaws.{due-as}
 use borrow.Author.Needs.{needs}
 use Rattle.script.proofs.forms.due.Statement.{statement}
 use Rattle.script.proofs.forms.due.Tie as tie
@@ -28,16 +29,16 @@ due-plain-requires : tie.Need-due-plain-requires
 due-plain-requires c κs = search needs
 
 returns : tie.Need-returns
-returns c = cc
+returns c = search due-as
 
 returns-2 : tie.Need-returns-2
-returns-2 c = cc
+returns-2 c = search due-as
 
 returns-3 : tie.Need-returns-3
-returns-3 c = cc
+returns-3 c = search due-as
 
 returns-4 : tie.Need-returns-4
-returns-4 c = cc
+returns-4 c = search due-as
 
 pub due-spec : {M : Type 1} → statement M
 due-spec =

@@ -1,5 +1,5 @@
 -- `fits` meets its contract. Assumes nothing.
-use Rattle.script.specs.Forms.{fits}
+use Rattle.script.specs.FormsLaws.{fits-groups, fits-flow, fits-as}
 use borrow.Author.Needs.{needs}
 use Rattle.script.proofs.forms.fits.Statement.{statement}
 use Rattle.script.proofs.forms.fits.Tie as tie
@@ -23,18 +23,16 @@ fits-plain-requires : tie.Need-fits-plain-requires
 fits-plain-requires c κs = search needs
 
 returns : tie.Need-returns
-unfolding fits
-returns c = cc
+returns c = search fits-groups
 
 returns-2 : tie.Need-returns-2
-unfolding fits
-returns-2 c = cc
+returns-2 c = search fits-flow
 
 returns-3 : tie.Need-returns-3
-returns-3 c = cc
+returns-3 c = search fits-as
 
 returns-4 : tie.Need-returns-4
-returns-4 c = cc
+returns-4 c = search fits-as
 
 pub fits-spec : {M : Type 1} → statement M
 fits-spec =

@@ -1,5 +1,5 @@
 -- `parameter_at` meets its contract. Assumes nothing.
-use Rattle.script.specs.Forms.{parameterAt}
+use Rattle.script.specs.FormsLaws.{parameter-groups, parameter-flow, parameter-applications, parameter-plain}
 use borrow.Author.Needs.{needs}
 use Rattle.script.proofs.forms.parameter_at.Statement.{statement}
 use Rattle.script.proofs.forms.parameter_at.Tie as tie
@@ -38,19 +38,16 @@ enum-told-4 : tie.Need-enum-told-4
 enum-told-4 c = search needs
 
 returns : tie.Need-returns
-returns c = cc
+returns c = search parameter-groups
 
 returns-2 : tie.Need-returns-2
-unfolding parameterAt
-returns-2 c = cc
+returns-2 c = search parameter-flow
 
 returns-3 : tie.Need-returns-3
-unfolding parameterAt
-returns-3 c = cc
+returns-3 c = search parameter-applications
 
 returns-4 : tie.Need-returns-4
-unfolding parameterAt
-returns-4 c = cc
+returns-4 c = search parameter-plain
 
 pub parameter-at-spec : {M : Type 1} → statement M
 parameter-at-spec =

@@ -1,5 +1,5 @@
 -- `read_field` meets its contract. Assumes nothing.
-use Rattle.script.specs.Forms.{fieldNumber}
+use Rattle.script.specs.FormsLaws.{field-as, field-decimal}
 use borrow.Author.Needs.{needs}
 use Rattle.script.proofs.forms.read_field.Statement.{statement}
 use Rattle.script.proofs.forms.read_field.Tie as tie
@@ -35,20 +35,19 @@ octets-word-requires : tie.Need-octets-word-requires
 octets-word-requires c κs = search needs
 
 returns : tie.Need-returns
-returns c = cc
+returns c = search field-as
 
 returns-2 : tie.Need-returns-2
-unfolding fieldNumber
-returns-2 c = cc
+returns-2 c = search field-decimal
 
 returns-3 : tie.Need-returns-3
-returns-3 c = cc
+returns-3 c = search field-as
 
 returns-4 : tie.Need-returns-4
-returns-4 c = cc
+returns-4 c = search field-as
 
 returns-5 : tie.Need-returns-5
-returns-5 c = cc
+returns-5 c = search field-as
 
 pub read-field-spec : {M : Type 1} → statement M
 read-field-spec =

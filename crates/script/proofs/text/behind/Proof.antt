@@ -1,5 +1,5 @@
 -- `behind` meets its contract. Assumes nothing.
-use Rattle.script.specs.StepsLaws.{rest}
+use Rattle.script.specs.TextLaws.{behind-found}
 use borrow.Author.Needs.{needs}
 use Rattle.script.proofs.text.behind.Statement.{statement}
 use Rattle.script.proofs.text.behind.Tie as tie
@@ -17,8 +17,7 @@ from-requires-2 : tie.Need-from-requires-2
 from-requires-2 c κs = search needs
 
 returns : tie.Need-returns
-unfolding rest
-returns c = cc
+returns c = search behind-found
 
 pub behind-spec : {M : Type 1} → statement M
 behind-spec =

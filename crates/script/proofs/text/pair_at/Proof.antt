@@ -1,5 +1,5 @@
 -- `pair_at` meets its contract. Assumes nothing.
-use Rattle.script.specs.Text.{pairAt}
+use Rattle.script.specs.TextLaws.{pair-read}
 use borrow.Author.Needs.{needs}
 use Rattle.script.proofs.text.pair_at.Statement.{statement}
 use Rattle.script.proofs.text.pair_at.Tie as tie
@@ -32,8 +32,7 @@ add-result : tie.Need-add-result
 add-result c = search needs
 
 returns : tie.Need-returns
-unfolding pairAt
-returns c = cc
+returns c = search pair-read
 
 pub pair-at-spec : {M : Type 1} → statement M
 pair-at-spec =

@@ -1,5 +1,5 @@
 -- `word` meets its contract. Assumes nothing.
-use Rattle.script.specs.StepsLaws.{firstWord}
+use Rattle.script.specs.TextLaws.{word-found}
 use borrow.Author.Needs.{needs}
 use Rattle.script.proofs.text.word.Statement.{statement}
 use Rattle.script.proofs.text.word.Tie as tie
@@ -17,8 +17,7 @@ first-requires : tie.Need-first-requires
 first-requires c κs = search needs
 
 returns : tie.Need-returns
-unfolding firstWord
-returns c = cc
+returns c = search word-found
 
 pub word-spec : {M : Type 1} → statement M
 word-spec = tie.close (tie.spec run-requires from-requires run-requires-2 first-requires returns)
