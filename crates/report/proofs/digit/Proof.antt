@@ -1,5 +1,5 @@
 -- `digit` meets its contract. Assumes nothing.
-use Rattle.report.specs.Put.{glyph-digit, glyph-letter}
+use Rattle.report.specs.PutLaws.{glyph-digit, glyph-letter}
 use borrow.Author.Needs.{needs}
 use Rattle.report.proofs.digit.Statement.{statement}
 use Rattle.report.proofs.digit.Tie as tie

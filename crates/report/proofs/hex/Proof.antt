@@ -3,7 +3,7 @@ use Prim.Native.Nat.{_-_}
 use native.Mathlib.Omega.{arith}
 use lib.ListN.{length, length-set}
 use borrow.Author.Needs.{needs}
-use Rattle.report.specs.Put.{Spelling, spelling-past, spelling-short, spelling-start, spelling-more, spelling-end}
+use Rattle.report.specs.PutLaws.{Spelling, spelling-past, spelling-short, spelling-start, spelling-more, spelling-end}
 use Rattle.report.proofs.hex.Statement.{statement}
 use Rattle.report.proofs.hex.Tie as tie
 

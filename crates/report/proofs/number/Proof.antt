@@ -1,5 +1,5 @@
 -- `number` meets its contract. Assumes nothing.
-use Rattle.report.specs.Put.{numbered}
+use Rattle.report.specs.PutLaws.{numbered}
 use borrow.Author.Needs.{needs}
 use Rattle.report.proofs.number.Statement.{statement}
 use Rattle.report.proofs.number.Tie as tie

@@ -4,7 +4,7 @@ use native.Mathlib.Omega.{arith}
 use lib.ListN.{length}
 use borrow.Author.Needs.{needs}
 use Rattle.octets.specs.Laws.{Putting, putting-start, putting-more}
-use Rattle.report.specs.Put.{put-past, put-short, put-all}
+use Rattle.report.specs.PutLaws.{put-past, put-short, put-all}
 use Rattle.report.proofs.text.Statement.{statement}
 use Rattle.report.proofs.text.Tie as tie
 
