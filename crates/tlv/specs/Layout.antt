@@ -45,14 +45,19 @@ foundAgain x start n = record { count = min 2 (x .count + 1); start = start; len
 unfoldable pub counts : List ℕ → ℕ → ℕ → Bool
 counts o start n = n below 4 || at o (start + 3) is 0
 
-unfoldable pub noted : List ℕ → Contents → ℕ → ℕ → ℕ → Contents
-noted o c type start n =
+-- one sub-TLV noted by its type, where it is told whether a feature's counts
+abbrev pub notedBy : Bool → Contents → ℕ → ℕ → ℕ → Contents
+notedBy counted c type start n =
     if type is 1 then record { control = foundAgain (c .control) start n; groups = c .groups; flow = c .flow; applications = c .applications }
-    else if not (counts o start n) then c
+    else if not counted then c
     else if type is 2 then record { control = c .control; groups = foundAgain (c .groups) start n; flow = c .flow; applications = c .applications }
     else if type is 3 then record { control = c .control; groups = c .groups; flow = foundAgain (c .flow) start n; applications = c .applications }
     else if type is 4 then record { control = c .control; groups = c .groups; flow = c .flow; applications = foundAgain (c .applications) start n }
     else c
+
+-- and where that is looked up at its value
+unfoldable pub noted : List ℕ → Contents → ℕ → ℕ → ℕ → Contents
+noted o c type start n = notedBy (counts o start n) c type start n
 
 abbrev pub nothingFound : Found
 nothingFound = record { count = 0; start = 0; length = 0 }
@@ -88,13 +93,16 @@ unfoldable pub isDcbx : List ℕ → Bool
 isDcbx o = 6 atmost length o && typeAt o 0 is 127 && same (take 4 (drop 2 o)) fixedOctets
 
 -- 6: "no control sub-TLV"; 7: "exactly one control, length not 10"; 8: "its Oper is above its Max"
-unfoldable pub judgedControl : List ℕ → Contents → Reading
-judgedControl o c =
+abbrev pub judgedBy : Contents → ℕ → ℕ → Reading
+judgedBy c oper max =
     if c .control .count is 0 then Refused NoControl
     else if 1 below c .control .count then Accepted c
     else if not (c .control .length is 10) then Refused ControlLength
-    else if at o (c .control .start + 1) below at o (c .control .start) then Refused ControlVersion
+    else if max below oper then Refused ControlVersion
     else Accepted c
+
+unfoldable pub judgedControl : List ℕ → Contents → Reading
+judgedControl o c = judgedBy c (at o (c .control .start)) (at o (c .control .start + 1))
 
 -- 4: "length field is not the octets after the head"; 5: "a sub-TLV, or its head, runs past the end"
 unfoldable pub readFrame : List ℕ → Reading

@@ -1,6 +1,7 @@
 pub mod Refusals
 pub mod Layout
 pub mod Replies
+pub mod Halting
 pub mod Promises
 pub mod Walking
 pub mod Laws
@@ -8,3 +9,5 @@ pub mod ValuesLaws
 pub mod WrittenLaws
 pub mod ReadBackLaws
 pub mod WalkingLaws
+pub mod HaltingLaws
+pub mod ResumingLaws

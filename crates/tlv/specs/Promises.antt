@@ -1,13 +1,12 @@
--- What the walk and `read` promise of their results: which they are, and that a caller may cut the values out of the octets.
+-- What `read` promises of its result: which it is, and that a caller may cut the values out of the octets.
 use Prim.Native.Nat.{ℕ, _+_, _≤_}
 use mathlib.Core.Path.{_≡_}
 use mathlib.Core.List.{List}
 use lib.ListN.{length}
 use Rattle.tlv.specs.declared.Contents.{Contents}
-use Rattle.tlv.specs.declared.Walk.{Walk}
 use Rattle.tlv.specs.declared.Reading.{Reading}
 use Rattle.tlv.specs.declared.Reading.the-variants.{Accepted}
-use Rattle.tlv.specs.Layout.{walked, readFrame}
+use Rattle.tlv.specs.Layout.{readFrame}
 
 -- each value that was found lies within the octets
 pub record Inside (o : List ℕ) (c : Contents) : Type 0 where
@@ -15,11 +14,6 @@ pub record Inside (o : List ℕ) (c : Contents) : Type 0 where
   pub groups : c .groups .start + c .groups .length ≤ length o
   pub flow : c .flow .start + c .flow .length ≤ length o
   pub applications : c .applications .start + c .applications .length ≤ length o
-
-pub record WalkPromise (o : List ℕ) (w : Walk) : Type 0 where
-  pub past : w .past ≡ walked o .past
-  pub contents : w .contents ≡ walked o .contents
-  pub inside : Inside o (w .contents)
 
 pub record ReadPromise (o : List ℕ) (r : Reading) : Type 0 where
   pub is : r ≡ readFrame o

@@ -5,7 +5,7 @@ use mathlib.Core.Bool.{Bool, true, false, not, _||_}
 use mathlib.Core.List.{List, [], _∷_, _++_, append-assoc, append-nil}
 use native.Mathlib.Omega.{arith}
 use native.Mathlib.Nat.{add-zero}
-use borrow.Author.Tests.{le-leb, ltb-false, eq-eqb}
+use borrow.Author.Tests.{le-leb, le-ltb, ltb-false, eq-eqb, ne-eqb}
 use lib.ListN.{length, take, drop, length-append, length-take, length-drop, List·getD-append}
 use lib.Seq.{getD-take, getD-drop, drop-drop, take-append-seam, drop-append-seam}
 use Rattle.octets.specs.Words.{if_then_else_, _below_, _is_}
@@ -14,7 +14,7 @@ use Rattle.tlv.specs.declared.Head.the-variants.{SubTlv}
 use Rattle.tlv.specs.declared.Contents.{Contents}
 use Rattle.tlv.specs.declared.Reading.the-variants.{Accepted}
 use Rattle.tlv.specs.Layout.{Walked, typeAt, lengthAt, headAt, counts, foundAgain, noted, onward, walkFrom, walked, isDcbx, judgedControl, readFrame}
-use Rattle.tlv.specs.Laws.{choice, head-end, head-whole, walked-inside, one-control}
+use Rattle.tlv.specs.Laws.{choice, head-end, head-whole, walked-inside}
 use Rattle.tlv.specs.Promises.{Inside}
 use Rattle.tlv.specs.ValuesLaws.{Tlv, octetsOf, octetsAll, frameOf, Values, OneControl, valuesIn, noValue, noValues, countedAgain, countsValue, notedValue, notedValues, Part, Parts, partOctets, partsOctets, partsValues, LaidOut}
 
@@ -118,6 +118,7 @@ frame-length ts h = omega arith
 
 -- one control whose value is readable is accepted
 control-accepted : (o : List ℕ) (c : Contents) (x : Values) → Inside o c → valuesIn o c ≡ x → OneControl x → judgedControl o c ≡ Accepted c
+unfolding judgedControl
 control-accepted o c x i e w =
     let f = c .control in
     let count : f .count ≡ 1 = ap (λ (v : Values). v .control .count) e ∙ w .once in
@@ -127,7 +128,7 @@ control-accepted o c x i e w =
     ap (λ (v : List ℕ). at v 0) (sym value) ∙ getD-take (f .length) (drop (f .start) o) 0 0 (omega arith) ∙ getD-drop (f .start) o 0 0 ∙ ap (λ (k : ℕ). at o k) (add-zero (f .start)) in
     let second : at (x .control .value) 1 ≡ at o (f .start + 1) =
     ap (λ (v : List ℕ). at v 1) (sym value) ∙ getD-take (f .length) (drop (f .start) o) 1 0 (omega arith) ∙ getD-drop (f .start) o 1 0 in
-    sym (one-control o c (omega arith) (omega arith) l (omega (arith, w .versions)))
+    simp (ne-eqb (f .count) 0 (omega arith), le-ltb 1 (f .count) (omega arith), eq-eqb (f .length) 10 l, le-ltb (at o (f .start + 1)) (at o (f .start)) (omega (arith, w .versions)))
 
 pub frame-accepted : (ts : List Tlv) → length (octetsAll ts) < 508 → Walks (frameOf ts) (walked (frameOf ts)) (notedValues ts noValues)
     → OneControl (notedValues ts noValues) → readFrame (frameOf ts) ≡ Accepted (walked (frameOf ts) .contents)

@@ -1,11 +1,13 @@
 // The DCBX TLV: its fixed octets, the heads of its sub-TLVs, the walk over them, and refusals 3 to 8.
 ghost use mathlib.Core.Path.{_≡_};
-ghost use Prim.Native.Nat.{_+_, _<_, _≤_};
-ghost use lib.ListN.{length};
+ghost use Prim.Native.Nat.{_+_, _-_, _*_, _%_, _<_, _≤_, _^_};
+ghost use lib.ListN.{length, drop};
 ghost use lib.Seq.{sets};
 ghost use Rattle.tlv.specs.Refusals.{refusalNumber};
-ghost use Rattle.tlv.specs.Layout.{headAt, counts, foundAgain, noted, noContents, isDcbx, judgedControl, lengthAt, frameHead};
-ghost use Rattle.tlv.specs.Promises.{Inside, WalkPromise, ReadPromise};
+ghost use Rattle.tlv.specs.Layout.{headAt, counts, foundAgain, noContents, isDcbx, frameHead};
+ghost use Rattle.tlv.specs.Halting.{notedAt, noControl, controlIn, keptBehind, begun, passed, judged, finished};
+ghost use Rattle.tlv.specs.HaltingLaws.{Room, Came, Ahead, judgedEnd};
+ghost use Rattle.tlv.specs.Promises.{ReadPromise};
 
 // The TLV's type (01, TLV layout).
 const DCBX: u8 = 127;
@@ -71,9 +73,30 @@ pub struct Contents {
     pub applications: Found,
 }
 
+// The versions and numbers of a control of length 10, and zeros for another.
+pub struct Control {
+    pub oper: u8,
+    pub max: u8,
+    pub seq: u32,
+    pub ack: u32,
+}
+
+// A walk over sub-TLVs, halted before one: its place, counted from 0 at the TLV's first octet, what it has found, and the last
+// control, so that no octet before its place is needed again (02, E6).
 pub struct Walk {
-    pub past: bool,
+    pub at: usize,
     pub contents: Contents,
+    pub control: Control,
+}
+
+// What the head at a walk's place makes of it.
+pub enum Step {
+    // No sub-TLV is left.
+    End,
+    // The next one, or its head, runs past the end.
+    Past,
+    // It is passed.
+    Halted(Walk),
 }
 
 // What reading a frame gives.
@@ -102,12 +125,11 @@ pub fn refusal_number(r: Refusal) -> u8
     }
 }
 
-// The 9 bits of length of the head at `at`.
-fn length_at(s: &[u8], at: usize) -> usize
-    requires { ⌜ at + 1 < length (now s) ⌝ }
-    ensures { λ r. ⌜ (r ≡ lengthAt (now (s .entry)) at) × (r < 512) ⌝ }
+// The 9 bits of length of a head of these two octets.
+fn length_of(high: u8, low: u8) -> usize
+    ensures { λ r. ⌜ (r ≡ high % 2 * 256 + low) × (r < 512) ⌝ }
 {
-    octets::wide(s[at] % 2) * 256 + octets::wide(s[at + 1])
+    octets::wide(high % 2) * 256 + octets::wide(low)
 }
 
 // What stands at `at`: the sub-TLV whose head is there, if the octets go on.
@@ -121,12 +143,13 @@ pub fn head_at(s: &[u8], at: usize) -> Head
     if left < 2 {
         return Head::Past;
     }
-    let length = length_at(s, at);
+    let high = s[at];
+    let length = length_of(high, s[at + 1]);
     if left - 2 < length {
         return Head::Past;
     }
     Head::SubTlv {
-        kind: s[at] / 2,
+        kind: high / 2,
         start: at + 2,
         length: length,
     }
@@ -162,32 +185,71 @@ fn found_again(x: Found, start: usize, n: usize) -> Found
     }
 }
 
-// Notes the sub-TLV that the walk has come to.
-fn note(s: &[u8], c: Contents, kind: u8, start: usize, n: usize) -> Contents
-    requires { ⌜ start + n ≤ length (now s) ⌝ }
-    ensures { λ r. ⌜ r ≡ noted (now (s .entry)) c kind start n ⌝ }
+// Notes a sub-TLV whose value stands at `start` of the octets from `base` of the whole on.
+fn note(s: &[u8], base: usize, c: Contents, kind: u8, start: usize, n: usize) -> Contents
+    requires { ⌜ Room base (now s) start n ⌝ }
+    ensures { λ r. ⌜ r ≡ notedAt base (now (s .entry)) c kind start n ⌝ }
 {
     let mut next = c;
+    let place = base + start;
     if kind == CONTROL {
-        next.control = found_again(c.control, start, n);
+        next.control = found_again(c.control, place, n);
         return next;
     }
     if !counts(s, start, n) {
         return c;
     }
     if kind == GROUPS {
-        next.groups = found_again(c.groups, start, n);
+        next.groups = found_again(c.groups, place, n);
         return next;
     }
     if kind == FLOW {
-        next.flow = found_again(c.flow, start, n);
+        next.flow = found_again(c.flow, place, n);
         return next;
     }
     if kind == APPLICATIONS {
-        next.applications = found_again(c.applications, start, n);
+        next.applications = found_again(c.applications, place, n);
         return next;
     }
     c
+}
+
+fn no_control() -> Control
+    ensures { λ r. ⌜ r ≡ noControl ⌝ }
+{
+    Control {
+        oper: 0,
+        max: 0,
+        seq: 0,
+        ack: 0,
+    }
+}
+
+// What is kept of a control's value.
+fn control_in(v: &[u8]) -> Control
+    ensures { λ r. ⌜ r ≡ controlIn (now (v .entry)) ⌝ }
+{
+    if v.len() != CONTROL_LENGTH {
+        return no_control();
+    }
+    Control {
+        oper: v[0],
+        max: v[1],
+        seq: octets::numbers::number4(v, 2),
+        ack: octets::numbers::number4(v, 6),
+    }
+}
+
+// The control kept behind a sub-TLV.
+fn keep(s: &[u8], k: Control, kind: u8, start: usize, n: usize) -> Control
+    requires { ⌜ start + n ≤ length (now s) ⌝ }
+    ensures { λ r. ⌜ r ≡ keptBehind (now (s .entry)) k kind start n ⌝ }
+{
+    if kind == CONTROL {
+        let end = start + n;
+        return control_in(&s[start..end]);
+    }
+    k
 }
 
 fn nothing_found() -> Contents
@@ -206,37 +268,118 @@ fn nothing_found() -> Contents
     }
 }
 
-// Goes from head to head behind the fixed octets, over the caller's own octets.
-fn walk_sub_tlvs(s: &[u8]) -> Walk
-    ensures { λ r. ⌜ WalkPromise (now (s .entry)) r ⌝ }
+// Refusals 6 to 8, by what a walk kept that came to the end.
+fn judge_control(c: Contents, k: Control) -> Reading
+    ensures { λ r. ⌜ r ≡ judged c k ⌝ }
 {
-    let mut contents = nothing_found();
-    let mut at = 6;
+    let control = c.control;
+    if control.count == 0 {
+        return Reading::Refused(Refusal::NoControl);
+    }
+    if 1 < control.count {
+        return Reading::Accepted(c);
+    }
+    if control.length != CONTROL_LENGTH {
+        return Reading::Refused(Refusal::ControlLength);
+    }
+    if k.max < k.oper {
+        return Reading::Refused(Refusal::ControlVersion);
+    }
+    Reading::Accepted(c)
+}
+
+// The walk before the first sub-TLV, behind the six octets at the TLV's head.
+pub fn begin_walk() -> Walk
+    ensures { λ r. ⌜ r ≡ begun ⌝ }
+{
+    Walk {
+        at: 6,
+        contents: nothing_found(),
+        control: no_control(),
+    }
+}
+
+// Passes one sub-TLV and halts before the next. `rest` are the octets from the walk's place to the end; the whole has a length,
+// hence the `requires`.
+pub fn pass_sub_tlv(w: Walk, rest: &[u8]) -> Step
+    requires { ⌜ w .at + length (now rest) < 2 ^ 64 ⌝ }
+    ensures { λ r. ⌜ r ≡ passed w (now (rest .entry)) ⌝ }
+{
+    let head = head_at(rest, 0);
+    match head {
+        Head::End => {
+            return Step::End;
+        }
+        Head::Past => {
+            return Step::Past;
+        }
+        Head::SubTlv {
+            kind,
+            start,
+            length,
+        } => {
+            return Step::Halted(Walk {
+                at: w.at + (start + length),
+                contents: note(rest, w.at, w.contents, kind, start, length),
+                control: keep(rest, w.control, kind, start, length),
+            });
+        }
+    }
+}
+
+// Refusals 6 to 8 at the end of a walk over `s`, the octets from `base` of the whole on: by the control that came in them, or
+// where `count` had come before by the one kept of these. With several none is read.
+fn judge_end(s: &[u8], base: usize, count: u8, k: Control, c: Contents) -> Reading
+    requires { ⌜ Came base (now s) count c ⌝ }
+    ensures { λ r. ⌜ r ≡ judgedEnd base (now (s .entry)) count k c ⌝ }
+{
+    let found = c.control;
+    if found.count != 1 {
+        return judge_control(c, k);
+    }
+    if count != 0 {
+        return judge_control(c, k);
+    }
+    let start = found.start - base;
+    let end = start + found.length;
+    judge_control(c, control_in(&s[start..end]))
+}
+
+// Goes on from head to head to the end, over `s`, the octets from `base` of the whole on.
+fn walk_on(s: &[u8], base: usize, w: Walk) -> Reading
+    requires { ⌜ Ahead base (now s) w ⌝ }
+    ensures { λ r. ⌜ r ≡ finished w (drop (w .at - base) (now (s .entry))) ⌝ }
+{
+    let before = w.contents.control;
+    let mut contents = w.contents;
+    let mut at = w.at - base;
     loop {
         let head = head_at(s, at);
         match head {
             Head::End => {
-                return Walk {
-                    past: false,
-                    contents: contents,
-                };
+                return judge_end(s, base, before.count, w.control, contents);
             }
             Head::Past => {
-                return Walk {
-                    past: true,
-                    contents: contents,
-                };
+                return Reading::Refused(Refusal::PastEnd);
             }
             Head::SubTlv {
                 kind,
                 start,
                 length,
             } => {
-                contents = note(s, contents, kind, start, length);
+                contents = note(s, base, contents, kind, start, length);
                 at = start + length;
             }
         }
     }
+}
+
+// Goes on to the end, over the octets from the walk's place on, as `pass_sub_tlv` takes them.
+pub fn finish_walk(w: Walk, rest: &[u8]) -> Reading
+    requires { ⌜ w .at + length (now rest) < 2 ^ 64 ⌝ }
+    ensures { λ r. ⌜ r ≡ finished w (now (rest .entry)) ⌝ }
+{
+    walk_on(rest, w.at, w)
 }
 
 // Whether the octets are a TLV of ours at all.
@@ -252,28 +395,6 @@ fn is_dcbx(s: &[u8]) -> bool
     octets::same_octets(&s[2..6], &FIXED)
 }
 
-// The control sub-TLV of a frame that was walked whole.
-fn judge_control(s: &[u8], c: Contents) -> Reading
-    requires { ⌜ Inside (now s) c ⌝ }
-    ensures { λ r. ⌜ r ≡ judgedControl (now (s .entry)) c ⌝ }
-{
-    let control = c.control;
-    if control.count == 0 {
-        return Reading::Refused(Refusal::NoControl);
-    }
-    if 1 < control.count {
-        return Reading::Accepted(c);
-    }
-    if control.length != CONTROL_LENGTH {
-        return Reading::Refused(Refusal::ControlLength);
-    }
-    let start = control.start;
-    if s[start + 1] < s[start] {
-        return Reading::Refused(Refusal::ControlVersion);
-    }
-    Reading::Accepted(c)
-}
-
 // Reads a frame: refusals 3 to 8, lowest number first (01, Refusal numbers), or what it has.
 pub fn read(s: &[u8]) -> Reading
     ensures { λ r. ⌜ ReadPromise (now (s .entry)) r ⌝ }
@@ -281,14 +402,10 @@ pub fn read(s: &[u8]) -> Reading
     if !is_dcbx(s) {
         return Reading::Refused(Refusal::NotDcbx);
     }
-    if length_at(s, 0) + 2 != s.len() {
+    if length_of(s[0], s[1]) + 2 != s.len() {
         return Reading::Refused(Refusal::WrongLength);
     }
-    let walk = walk_sub_tlvs(s);
-    if walk.past {
-        return Reading::Refused(Refusal::PastEnd);
-    }
-    judge_control(s, walk.contents)
+    walk_on(s, 0, begin_walk())
 }
 
 // Writes the first six octets of a frame whose sub-TLVs fill `n` octets. For the layer above, which has looked at the

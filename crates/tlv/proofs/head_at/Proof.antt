@@ -14,17 +14,23 @@ sub-left c = search needs
 returns-2 : tie.Need-returns-2
 returns-2 c = head-past _ _ (omega arith) (omega arith)
 
-length-at-requires : tie.Need-length-at-requires
-length-at-requires c κs = search needs
+shared-slice-read-high : tie.Need-shared-slice-read-high
+shared-slice-read-high c = search needs
+
+add-length-of : tie.Need-add-length-of
+add-length-of c = search needs
+
+shared-slice-read-length-of : tie.Need-shared-slice-read-length-of
+shared-slice-read-length-of c = search needs
+
+length-of-requires : tie.Need-length-of-requires
+length-of-requires c κs = search needs
 
 returns-3 : tie.Need-returns-3
 returns-3 c = head-past _ _ (omega arith) (omega arith)
 
-shared-slice-read-t8 : tie.Need-shared-slice-read-t8
-shared-slice-read-t8 c = search needs
-
-add-t5 : tie.Need-add-t5
-add-t5 c = search needs
+add-t6 : tie.Need-add-t6
+add-t6 c = search needs
 
 returns-4 : tie.Need-returns-4
 returns-4 c = head-whole _ _ (search needs) (omega arith)
@@ -36,8 +42,10 @@ head-at-spec =
     returns
     sub-left
     returns-2
-    length-at-requires
+    shared-slice-read-high
+    add-length-of
+    shared-slice-read-length-of
+    length-of-requires
     returns-3
-    shared-slice-read-t8
-    add-t5
+    add-t6
     returns-4)

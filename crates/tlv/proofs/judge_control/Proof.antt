@@ -1,6 +1,5 @@
 -- `tlv::judge_control` meets its contract: a law for each of refusals 6 to 8 and for each way to be accepted. Assumes nothing.
-use borrow.Author.Needs.{needs}
-use Rattle.tlv.specs.Laws.{no-control, several-controls, control-length, control-version, one-control}
+use Rattle.tlv.specs.HaltingLaws.{no-control, several-controls, control-length, control-version, one-control}
 use Rattle.tlv.proofs.judge_control.Statement.{statement}
 use Rattle.tlv.proofs.judge_control.Tie as tie
 
@@ -13,15 +12,6 @@ returns-2 c = search several-controls
 returns-3 : tie.Need-returns-3
 returns-3 c = search control-length
 
-add-if4 : tie.Need-add-if4
-add-if4 c = search needs
-
-shared-slice-read-if4 : tie.Need-shared-slice-read-if4
-shared-slice-read-if4 c = search needs
-
-shared-slice-read-if4-2 : tie.Need-shared-slice-read-if4-2
-shared-slice-read-if4-2 c = search needs
-
 returns-4 : tie.Need-returns-4
 returns-4 c = search control-version
 
@@ -29,14 +19,4 @@ returns-5 : tie.Need-returns-5
 returns-5 c = search one-control
 
 pub judge-control-spec : {M : Type 1} → statement M
-judge-control-spec =
-    tie.close
-    (tie.spec
-    returns
-    returns-2
-    returns-3
-    add-if4
-    shared-slice-read-if4
-    shared-slice-read-if4-2
-    returns-4
-    returns-5)
+judge-control-spec = tie.close (tie.spec returns returns-2 returns-3 returns-4 returns-5)

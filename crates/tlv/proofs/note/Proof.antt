@@ -1,8 +1,11 @@
 -- `tlv::note` meets its contract: a law for each type, and for what is skipped. Assumes nothing.
 use borrow.Author.Needs.{needs}
-use Rattle.tlv.specs.Laws.{noted-control, noted-skipped, noted-groups, noted-flow, noted-applications, noted-other}
+use Rattle.tlv.specs.HaltingLaws.{noted-control, noted-skipped, noted-groups, noted-flow, noted-applications, noted-other}
 use Rattle.tlv.proofs.note.Statement.{statement}
 use Rattle.tlv.proofs.note.Tie as tie
+
+add-place : tie.Need-add-place
+add-place c = search needs
 
 found-again-requires : tie.Need-found-again-requires
 found-again-requires c κs = search needs
@@ -41,6 +44,7 @@ pub note-spec : {M : Type 1} → statement M
 note-spec =
     tie.close
     (tie.spec
+    add-place
     found-again-requires
     returns
     counts-requires

@@ -1,6 +1,7 @@
--- `tlv::read` keeps its promise: a law for each of refusals 3 to 5, and the control sub-TLV's judge for the rest. Assumes nothing.
+-- `tlv::read` keeps its promise: a law for each of refusals 3 and 4, and the walk begun and gone on with for the rest. Assumes nothing.
 use borrow.Author.Needs.{needs}
-use Rattle.tlv.specs.Laws.{dcbx-long, read-other, read-length, read-past, read-judged}
+use Rattle.tlv.specs.Laws.{dcbx-some, dcbx-long}
+use Rattle.tlv.specs.ResumingLaws.{read-other, read-length, read-finished}
 use Rattle.tlv.proofs.read.Statement.{statement}
 use Rattle.tlv.proofs.read.Tie as tie
 
@@ -10,8 +11,14 @@ is-dcbx-requires c κs = search needs
 returns : tie.Need-returns
 returns c = search read-other
 
-length-at-requires : tie.Need-length-at-requires
-length-at-requires c κs = search dcbx-long
+shared-slice-read-length-of : tie.Need-shared-slice-read-length-of
+shared-slice-read-length-of c = search dcbx-some
+
+shared-slice-read-length-of-2 : tie.Need-shared-slice-read-length-of-2
+shared-slice-read-length-of-2 c = search dcbx-long
+
+length-of-requires : tie.Need-length-of-requires
+length-of-requires c κs = search needs
 
 add-if2 : tie.Need-add-if2
 add-if2 c = search needs
@@ -19,17 +26,14 @@ add-if2 c = search needs
 returns-2 : tie.Need-returns-2
 returns-2 c = search read-length
 
-walk-sub-tlvs-requires : tie.Need-walk-sub-tlvs-requires
-walk-sub-tlvs-requires c κs = search needs
+begin-walk-requires : tie.Need-begin-walk-requires
+begin-walk-requires c κs = search needs
+
+walk-on-requires : tie.Need-walk-on-requires
+walk-on-requires c κs = search needs
 
 returns-3 : tie.Need-returns-3
-returns-3 c = search read-past
-
-judge-control-requires : tie.Need-judge-control-requires
-judge-control-requires c κs = search needs
-
-returns-4 : tie.Need-returns-4
-returns-4 c = search read-judged
+returns-3 c = search read-finished
 
 pub read-spec : {M : Type 1} → statement M
 read-spec =
@@ -37,10 +41,11 @@ read-spec =
     (tie.spec
     is-dcbx-requires
     returns
-    length-at-requires
+    shared-slice-read-length-of
+    shared-slice-read-length-of-2
+    length-of-requires
     add-if2
     returns-2
-    walk-sub-tlvs-requires
-    returns-3
-    judge-control-requires
-    returns-4)
+    begin-walk-requires
+    walk-on-requires
+    returns-3)
