@@ -1,5 +1,5 @@
 # make run: will two boxes agree? make test: the gate. make bench: speed beside the reference implementation.
-# make tshark: frames beside what tshark shows of them.
+# make tshark: frames beside what tshark shows of them. make check-time: how long each crate's check takes.
 
 SHELL := /bin/bash -o pipefail
 CARGO := cargo --offline --quiet
@@ -7,7 +7,7 @@ REFERENCE := --release --manifest-path tests/reference/Cargo.toml
 COMPARE := --release --manifest-path tests/compare/Cargo.toml
 VERDICT := .ci/verdict
 
-.PHONY: run test bench tshark
+.PHONY: run test bench check-time tshark
 
 # Only what rt says of each crate is shown; the rest stays in target/log.
 run:
@@ -29,6 +29,10 @@ bench:
 	rt check desk
 	$(CARGO) build $(REFERENCE) --bins
 	$(CARGO) run $(COMPARE) --bin bench
+
+# One crate after the other, on a machine that does nothing else: some ten minutes.
+check-time:
+	tests/check-time.sh
 
 # Not in the gate: it needs tshark, which tests/tshark/install.sh installs.
 tshark:
