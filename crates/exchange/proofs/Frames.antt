@@ -16,8 +16,8 @@ use Rattle.tlv.specs.ValuesLaws.{Counted, Values, Part, Parts, partsOctets, par
 use Rattle.tlv.specs.ReadBackLaws.{ReadBack, read-parts}
 use Rattle.parameters.specs.declared.Feature.{Feature}
 use Rattle.parameters.specs.declared.Feature.the-variants.{Groups, Flow, Applications}
-use Rattle.parameters.specs.Parameters.{featureNumber, validGroups, validFlow, valid, content}
-use Rattle.parameters.specs.FeatureLaws.{valid-length}
+use Rattle.parameters.specs.Parameters.{featureNumber, validGroups, validFlow, valid, ours, content}
+use Rattle.parameters.specs.FeatureLaws.{ours-length}
 use Rattle.feature.specs.declared.State.{State}
 use Rattle.feature.specs.Outcome.{Received}
 use Rattle.feature.specs.State.{value, subTlv}
@@ -53,11 +53,11 @@ longest Groups = 13
 longest Flow = 2
 longest Applications = 96
 
-valid-longest : (f : Feature) (o : List ℕ) → valid f o ≡ true → length o ≤ longest f
+valid-longest : (f : Feature) (o : List ℕ) → valid f o ≡ true → ours f o ≡ o → length o ≤ longest f
 unfolding valid validGroups validFlow
-valid-longest Groups o e = let l : length o ≡ 13 = eqb-true (length o) 13 (and-left _ _ (and-left _ _ (and-left _ _ e))) in omega arith
-valid-longest Flow o e = let l : length o ≡ 2 = eqb-true (length o) 2 (and-left _ _ e) in omega arith
-valid-longest Applications o e = valid-length Applications o e
+valid-longest Groups o e k = let l : length o ≡ 13 = eqb-true (length o) 13 (and-left _ _ (and-left _ _ (and-left _ _ e))) in omega arith
+valid-longest Flow o e k = let l : length o ≡ 2 = eqb-true (length o) 2 (and-left _ _ e) in omega arith
+valid-longest Applications o e k = rw k at (ours-length Applications o e)
 
 sub-length : (f : Feature) (x : State) → SoundState f x → length (subTlv f x) ≤ 6 + longest f
 unfolding subTlv
@@ -65,7 +65,7 @@ sub-length f x h = by (x .setting .advertise)
   where
     by : (b : Bool) →
         length (if b then headed (featureNumber f) (value x) else []) ≤ 6 + longest f
-    by true = omega (arith, valid-longest f (content (x .setting .desired)) (h .setting .desired .valid))
+    by true = omega (arith, valid-longest f (content (x .setting .desired)) (h .setting .desired .valid) (h .setting .desired .own))
     by false = omega arith
 
 subs-length : (q : Port) → SoundPort q → length (subTlvs q) ≤ 141

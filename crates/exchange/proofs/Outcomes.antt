@@ -108,6 +108,7 @@ outcome-by f own peer old oper error h =
       flag-willing (peer .setting .enable) (peer .setting .willing) error,
       flag-error (peer .setting .enable) (peer .setting .willing) error,
       h .valid,
+      h .own,
       ← h .whole,
     )
 

@@ -54,7 +54,7 @@ small flow h control Flow = h
 small flow h control Applications = lit< tt
 
 begun : Begun w7
-unfolding w7 created desired versions card.created events.created events.settingsValid parameters.validLocal parameters.localValues parameters.valid parameters.validGroups parameters.validFlow parameters.validApplications parameters.goodHalves parameters.sum parameters.allFrom parameters.newName parameters.sameName parameters.ones
+unfolding w7 created desired versions card.created events.created events.settingsValid parameters.validLocal parameters.localValues parameters.valid parameters.validGroups parameters.validFlow parameters.validApplications parameters.isOurs parameters.oursOf parameters.ours parameters.fewAndNew parameters.goodHalves parameters.sum parameters.allFrom parameters.newName parameters.sameName parameters.ones
 begun =
     record {
       l = created-started (record { versions = versions 0 1; switches = unwilling; parameters = desired 8; control = lit< tt; features = small 1 (lit< tt) 0; done = refl });
@@ -65,7 +65,7 @@ begun =
 
 -- SeqNo 2, RcvdAckNo 1
 numbers : (execAll (rounds (replicate 4 plainRound)) w7 .r .port .control .seq ≡ 2) × (execAll (rounds (replicate 4 plainRound)) w7 .r .port .control .rcvd ≡ 1)
-unfolding w7 created desired versions unwilling lent plainRound layout.headAt layout.foundAgain layout.counts layout.noted layout.onward layout.walkFrom layout.walked layout.isDcbx layout.judgedControl layout.readFrame parameters.featureNumber parameters.goodHalves parameters.sum parameters.validGroups parameters.validFlow parameters.sameName parameters.allFrom parameters.newName parameters.validApplications parameters.valid parameters.ones parameters.localValues parameters.validLocal parameters.clash parameters.clearOf parameters.compatible parameters.plainOctet parameters.plainFrom parameters.plain parameters.stored parameters.content rules.judged rules.outcome state.freshAt state.subTlv state.acknowledged state.received state.changed state.marked notices.emptyLog notices.shifted notices.logged notices.loggedAll writing.subTlvs writing.frame writing.toWrite writing.asks writing.written writing.output events.unsynced events.sent events.becomes events.listed events.inOrder events.started events.settingsValid events.created handling.exchanged handling.once handling.steps1to4 handling.markNotice handling.frameEvent handling.accepted handling.given handling.handled card.created card.handled ends.other ends.afterWrite ends.delivered ends.exec ends.execAll ends.quiet ends.maybe ends.writeOf ends.handleOf ends.calls ends.rounds same
+unfolding w7 created desired versions unwilling lent plainRound layout.headAt layout.foundAgain layout.counts layout.noted layout.onward layout.walkFrom layout.walked layout.isDcbx layout.judgedControl layout.readFrame parameters.featureNumber parameters.goodHalves parameters.sum parameters.validGroups parameters.validFlow parameters.sameName parameters.allFrom parameters.newName parameters.validApplications parameters.valid parameters.ones parameters.localValues parameters.validLocal parameters.clash parameters.clearOf parameters.compatible parameters.isOurs parameters.oursOf parameters.ours parameters.fewAndNew parameters.stored parameters.content rules.judged rules.outcome state.freshAt state.subTlv state.acknowledged state.received state.changed state.marked notices.emptyLog notices.shifted notices.logged notices.loggedAll writing.subTlvs writing.frame writing.toWrite writing.asks writing.written writing.output events.unsynced events.sent events.becomes events.listed events.inOrder events.started events.settingsValid events.created handling.exchanged handling.once handling.steps1to4 handling.markNotice handling.frameEvent handling.accepted handling.given handling.handled card.created card.handled ends.other ends.afterWrite ends.delivered ends.exec ends.execAll ends.quiet ends.maybe ends.writeOf ends.handleOf ends.calls ends.rounds same
 numbers = (refl, refl)
 
 pub five-are-needed : (c : Ends) × Begun c × (rs : List Round) × (length rs ≡ 4) × Proper (rounds rs) c

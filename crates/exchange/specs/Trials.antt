@@ -128,6 +128,22 @@ unfoldable pub entries : ℕ → List ℕ
 entries zero = []
 entries (suc n) = (137 ∷ n ∷ []) ++ (0x00 ∷ 0x1b ∷ 0x21 ∷ 0x08 ∷ []) ++ entries n
 
+-- one entry of an id's low octet, the octet above the selector, the two octets behind it, and a map
+unfoldable pub entry : ℕ → ℕ → ℕ → ℕ → ℕ → List ℕ
+entry low third fourth fifth map = 137 ∷ low ∷ third ∷ fourth ∷ fifth ∷ map ∷ []
+
+-- FCoE's id 8906 under OUI 00 1b 21, on a map; and under a partner's
+unfoldable pub own : ℕ → List ℕ
+own map = entry 6 0x00 0x1b 0x21 map
+
+unfoldable pub foreign : ℕ → List ℕ
+foreign map = entry 6 0x00 0x0e 0x87 map
+
+-- n foreign entries
+unfoldable pub foreigners : ℕ → List ℕ
+foreigners zero = []
+foreigners (suc n) = foreign 0x10 ++ foreigners n
+
 unfoldable pub percentages : ℕ → List ℕ
 percentages last = (0x00 ∷ 0x00 ∷ 0x00 ∷ 0x00 ∷ 0x32 ∷ 0x00 ∷ 0x00 ∷ 0x00 ∷ 0x00 ∷ 0x00 ∷ 0x00 ∷ []) ++ last ∷ 8 ∷ []
 
@@ -194,6 +210,10 @@ unfoldable pub came : Feature → List ℕ → List ℕ
 came f p =
     text
     (reasonWord (rules.outcome f 0 (featureOf (w2Card .port) f .setting) 0 (record { count = 1; value = (0x00 ∷ 0x00 ∷ 0x80 ∷ 0x00 ∷ []) ++ p }) .reason))
+
+-- what W2's card holds of entries that come
+unfoldable pub holds : List ℕ → List ℕ
+holds p = parameters.content (rules.outcome Applications 0 (featureOf (w2Card .port) Applications .setting) 0 (record { count = 1; value = (0x00 ∷ 0x00 ∷ 0x80 ∷ 0x00 ∷ []) ++ p }) .peer .parameters)
 
 unfoldable pub set : Feature → List ℕ → List ℕ
 set f p = spoken (replyOf w2Card (call.setting (parameters.featureNumber f) on p))

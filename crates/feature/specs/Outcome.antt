@@ -12,7 +12,7 @@ use Rattle.parameters.specs.declared.Parameters.{Parameters}
 use Rattle.feature.specs.declared.Setting.{Setting}
 use Rattle.feature.specs.declared.Peer.{Peer}
 use Rattle.feature.specs.declared.Outcome.{Outcome}
-use Rattle.parameters.specs.Parameters.{valid, compatible, plain, stored, content, noParameters}
+use Rattle.parameters.specs.Parameters.{valid, compatible, ours, stored, content, noParameters}
 
 -- What a frame has of one feature: how often it came, counted up to two, and the value of the last, "Oper, Max, flags, SubType, then parameters".
 pub record Received : Type 0 where
@@ -45,9 +45,9 @@ lower a b = min a b
 abbrev pub noPeer : Peer
 noPeer = record { held = false; enable = false; willing = false; error = false; parameters = noParameters }
 
--- "Otherwise the peer is held, its three flags and its parameters"
+-- "Otherwise the peer is held, its three flags and its parameters"; of application entries those that are ours (02, E3)
 abbrev pub heldPeer : Feature → List ℕ → Peer
-heldPeer f v = record { held = true; enable = enableOf v; willing = willingOf v; error = errorOf v; parameters = stored (plain f (parametersOf v)) }
+heldPeer f v = record { held = true; enable = enableOf v; willing = willingOf v; error = errorOf v; parameters = stored (ours f (parametersOf v)) }
 
 -- "In 1 to 5 peer is none, mode false, OperCfg = DesiredCfg."
 abbrev pub withoutPeer : Reason → ℕ → Bool → Outcome

@@ -9,11 +9,11 @@ use lib.ListN.{length, take}
 use borrow.Author.Tests.{not-true, not-false, lt-ltb, le-ltb, eq-eqb, ne-eqb}
 use Rattle.parameters.specs.declared.Feature.{Feature}
 use Rattle.parameters.specs.declared.Parameters.{Parameters}
-use Rattle.parameters.specs.Parameters.{valid, compatible, content, plain, stored, noParameters}
-use Rattle.parameters.specs.FeatureLaws.{valid-length}
+use Rattle.parameters.specs.Parameters.{valid, compatible, content, ours, stored, noParameters}
+use Rattle.parameters.specs.FeatureLaws.{ours-length}
 use Rattle.parameters.specs.StoringLaws.{content-stored}
 use Rattle.parameters.specs.WritingLaws.{content-of}
-use Rattle.parameters.specs.PlainLaws.{length-plain, compatible-plain-right}
+use Rattle.parameters.specs.OursLaws.{compatible-ours}
 use Rattle.feature.specs.declared.Reason.the-variants.{Absent, Duplicate, Bad, Waiting, Disabled, Agreed, NotCompatible}
 use Rattle.feature.specs.declared.Setting.{Setting}
 use Rattle.feature.specs.declared.Peer.{Peer}
@@ -149,10 +149,8 @@ judged-value f s oper v {x} {n} {own} {w} {t} ex en eo ew et e =
     judged-lent f s oper w t ex en eo e ∙ (λ i. judgedOn f (switchesOf s) (content (s .desired)) oper (ew i) (et i))
 
 -- parameters that are valid suit the own ones just as what is held of them
-pub held-suits : (f : Feature) (o t : List ℕ) → valid f t ≡ true → compatible f o (content (stored (plain f t))) ≡ compatible f o t
-held-suits f o t v =
-    let n : length (plain f t) ≤ 96 = omega (arith, length-plain f t, valid-length f t v) in
-    ap (compatible f o) (content-stored (plain f t) n) ∙ compatible-plain-right f o t
+pub held-suits : (f : Feature) (o t : List ℕ) → valid f t ≡ true → compatible f o (content (stored (ours f t))) ≡ compatible f o t
+held-suits f o t v = ap (compatible f o) (content-stored (ours f t) (ours-length f t v)) ∙ compatible-ours f o t
 
 -- ---- rules 1 to 5, and the way to 6
 
@@ -192,4 +190,4 @@ module _ (f : Feature) (max : ℕ) (s : Setting) (oper n : ℕ) (v : List ℕ) {
               let u : valid f (parametersOf v) ≡ true = ap (valid f) (sym d4) ∙ sym y ∙ not-false g t in
               let i : g ≡ valid f (parametersOf v) = y ∙ ap (valid f) d4 in
               simp (ne-eqb n 0 z, le-ltb 1 n d, le-ltb (length v) 4 l, ← ea, ← eb, le-ltb b a m, ← q, eq-eqb a c h, ← i, t)
-              (e ∙ judges f s c (flagsOf v) (parametersOf v) (stored (plain f (parametersOf v))) (held-suits f (content (s .desired)) (parametersOf v) u))
+              (e ∙ judges f s c (flagsOf v) (parametersOf v) (stored (ours f (parametersOf v))) (held-suits f (content (s .desired)) (parametersOf v) u))

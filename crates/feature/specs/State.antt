@@ -12,7 +12,7 @@ use Rattle.feature.specs.declared.Switches.{Switches}
 use Rattle.feature.specs.declared.Setting.{Setting}
 use Rattle.feature.specs.declared.Outcome.{Outcome}
 use Rattle.feature.specs.declared.State.{State}
-use Rattle.parameters.specs.Parameters.{featureNumber, plain, stored, content, sameParameters}
+use Rattle.parameters.specs.Parameters.{featureNumber, ours, stored, content, sameParameters}
 use Rattle.feature.specs.Outcome.{Received, noPeer, withoutPeer, judged, outcome}
 
 -- "SeqNo goes up by one, 4,294,967,295 going to 0"
@@ -95,7 +95,7 @@ marked f seq before after =
 
 -- a setting whose parameters are given as octets, read as received ones are
 abbrev pub settingOf : Feature → Switches → List ℕ → Setting
-settingOf f w p = record { advertise = w .advertise; enable = w .enable; willing = w .willing; desired = stored (plain f p) }
+settingOf f w p = record { advertise = w .advertise; enable = w .enable; willing = w .willing; desired = stored (ours f p) }
 
 -- "two settings are equal only if advertise, enable, willing and these all are"
 unfoldable pub sameSetting : Setting → Setting → Bool

@@ -10,7 +10,7 @@ use borrow.Author.Tests.{not-true, not-false, eq-eqb, ne-eqb, eqb-true, eqb-fals
 use Rattle.octets.specs.Words.{if_then_else_, _is_, _below_}
 use Rattle.parameters.specs.declared.Feature.{Feature}
 use Rattle.parameters.specs.declared.Parameters.{Parameters}
-use Rattle.parameters.specs.Parameters.{valid, plain, stored, noParameters}
+use Rattle.parameters.specs.Parameters.{valid, ours, stored, noParameters}
 use Rattle.feature.specs.declared.Reason.the-variants.{Absent, Duplicate, Bad, Waiting, ControlTwice}
 use Rattle.feature.specs.declared.Setting.{Setting}
 use Rattle.feature.specs.declared.Peer.{Peer}
@@ -52,7 +52,7 @@ weighed x d syncd seq =
     else record { decision = d; syncd = false; sequence = next seq }
 
 abbrev pub peerParametersNow : Feature → List ℕ → Bool → Parameters
-peerParametersNow f v held = if held then stored (plain f (parametersOf v)) else noParameters
+peerParametersNow f v held = if held then stored (ours f (parametersOf v)) else noParameters
 
 -- a frame leaves what is held of the peer
 abbrev keepsOn : Course → Bool
@@ -222,7 +222,7 @@ module _ (f : Feature) (v : List ℕ) (x : State) (c : Course) {b : Bool} (k : b
   held-kept t = simp (← k, t)
 
   module _ (t : b ≡ false) {p : Parameters} where
-    pub held-brought : {o : List ℕ} → held ≡ true → o ≡ parametersOf v → p ≡ stored (plain f o) → p ≡ peerParametersAfter c f v held x
+    pub held-brought : {o : List ℕ} → held ≡ true → o ≡ parametersOf v → p ≡ stored (ours f o) → p ≡ peerParametersAfter c f v held x
     unfolding peerParametersAfter
     held-brought h eo e = e ∙ simp (← k, t, h, eo)
 

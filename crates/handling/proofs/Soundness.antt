@@ -16,9 +16,9 @@ use Rattle.tlv.specs.declared.Contents.{Contents}
 use Rattle.tlv.specs.Layout.{valueOf}
 use Rattle.parameters.specs.declared.Feature.{Feature}
 use Rattle.parameters.specs.declared.Feature.the-variants.{Groups, Flow, Applications}
-use Rattle.parameters.specs.Parameters.{valid, compatible, plain, stored, content}
-use Rattle.parameters.specs.FeatureLaws.{valid-length}
-use Rattle.parameters.specs.PlainLaws.{length-plain, plain-plain, valid-plain}
+use Rattle.parameters.specs.Parameters.{valid, compatible, ours, stored, content}
+use Rattle.parameters.specs.FeatureLaws.{ours-length, valid-ours}
+use Rattle.parameters.specs.OursLaws.{ours-ours}
 use Rattle.parameters.specs.StoringLaws.{content-stored}
 use Rattle.feature.specs.declared.Reason.{Reason}
 use Rattle.feature.specs.declared.Reason.the-variants.{Absent, Duplicate, Bad, Waiting, ControlTwice}
@@ -38,11 +38,10 @@ use Rattle.feature.specs.RulesLaws.{judgedBy, judged-by, judged-oper, judged-pe
 -- ---- outcomes
 
 -- valid parameters that were read are held soundly
-pub sound-stored : (f : Feature) (o : List ℕ) → valid f o ≡ true → SoundParameters f (stored (plain f o))
+pub sound-stored : (f : Feature) (o : List ℕ) → valid f o ≡ true → SoundParameters f (stored (ours f o))
 sound-stored f o v =
-    let n : length (plain f o) ≤ 96 = omega (arith, length-plain f o, valid-length f o v) in
-    let e : content (stored (plain f o)) ≡ plain f o = content-stored (plain f o) n in
-    record { whole = ap stored (sym (ap (plain f) e ∙ plain-plain f o)); valid = ap (valid f) e ∙ valid-plain f o ∙ v }
+    let e : content (stored (ours f o)) ≡ ours f o = content-stored (ours f o) (ours-length f o v) in
+    record { whole = ap stored (sym e); own = ap (ours f) e ∙ ours-ours f o ∙ sym e; valid = ap (valid f) e ∙ valid-ours f o v }
 
 pub record SoundOutcome (f : Feature) (max : ℕ) (s : Setting) (o : Outcome) : Type 0 where
   pub oper : o .oper ≤ max

@@ -1,11 +1,9 @@
 -- Every event keeps a port sound and, while it is stopped, in the fresh stopped state. Assumes nothing.
-use Prim.Native.Nat.{ℕ, _<_, _≤_}
-use native.Mathlib.Omega.{arith}
+use Prim.Native.Nat.{ℕ, _<_}
 use native.Mathlib.Nat.{le-refl}
 use mathlib.Core.Path.{_≡_, refl, sym, ap, _∙_}
 use mathlib.Core.Bool.{Bool, true, false, not, Bool·beq, false≢true}
 use mathlib.Core.List.{List}
-use lib.ListN.{length}
 use lib.Dec.{lit<}
 use Rattle.octets.specs.Words.{if_then_else_, _below_, _is_}
 use Rattle.octets.specs.Laws.{and-left, and-right}
@@ -16,9 +14,8 @@ use Rattle.tlv.specs.declared.Reading.the-variants.{Refused, Accepted}
 use Rattle.tlv.specs.Layout.{readFrame}
 use Rattle.parameters.specs.declared.Feature.{Feature}
 use Rattle.parameters.specs.declared.Feature.the-variants.{Groups, Flow, Applications}
-use Rattle.parameters.specs.Parameters.{valid, localValues, validLocal, plain, stored, content}
-use Rattle.parameters.specs.FeatureLaws.{valid-length}
-use Rattle.parameters.specs.PlainLaws.{length-plain, local-plain}
+use Rattle.parameters.specs.Parameters.{valid, localValues, validLocal, ours, stored, content}
+use Rattle.parameters.specs.FeatureLaws.{ours-length, local-ours}
 use Rattle.parameters.specs.StoringLaws.{content-stored}
 use Rattle.feature.specs.declared.Setting.{Setting}
 use Rattle.feature.specs.declared.Switches.{Switches}
@@ -155,11 +152,10 @@ pub setting-sound : (f : Feature) (w : Switches) (o : List ℕ) → validLocal f
 unfolding validLocal
 setting-sound f w o e =
     let v : valid f o ≡ true = and-left (valid f o) (localValues f o) e in
-    let n : length (plain f o) ≤ 96 = omega (arith, length-plain f o, valid-length f o v) in
-    let c : content (stored (plain f o)) ≡ plain f o = content-stored (plain f o) n in
+    let c : content (stored (ours f o)) ≡ o = content-stored (ours f o) (ours-length f o v) ∙ local-ours f o e in
     record {
       desired = sound-stored f o v;
-      local = ap (localValues f) c ∙ and-right (valid f (plain f o)) (localValues f (plain f o)) (local-plain f o ∙ e);
+      local = ap (localValues f) c ∙ and-right (valid f o) (localValues f o) e;
     }
 
 module _ (f : Feature) (s : Setting) (k : SoundSetting f s) (x : State) (h : SoundState f x) where

@@ -1,8 +1,8 @@
 -- Laws of `allFrom`, a test of each number of a run. Assumes nothing.
 use Prim.Native.Nat.{ℕ, zero, suc, _+_, _-_, _≤_, _<_}
 use native.Mathlib.Omega.{arith}
-use mathlib.Core.Path.{_≡_, refl, sym, ap, fun-ext}
-use mathlib.Core.Bool.{Bool, true, false, _&&_}
+use mathlib.Core.Path.{_≡_, refl, sym, ap, _∙_, fun-ext}
+use mathlib.Core.Bool.{Bool, true, false, _&&_, false≢true}
 use borrow.Author.Tests.{eqb-true, eqb-false}
 use Rattle.octets.specs.Words.{_is_}
 use Rattle.octets.specs.Laws.{and-left, and-right}
@@ -59,3 +59,34 @@ unfolding allFrom
 all-of zero i test h = refl
 all-of (suc n) i test h =
     rw (h i (omega arith) (omega arith)) (all-of n (i + 1) test (λ j l m. h j (omega arith) (omega arith)))
+
+-- tests that agree below the end of a run
+pub all-alike : (n i : ℕ) (s t : ℕ → Bool) → ((j : ℕ) → j < i + n → s j ≡ t j) → allFrom n i s ≡ allFrom n i t
+unfolding allFrom
+all-alike zero i s t h = refl
+all-alike (suc n) i s t h = rw (h i (omega arith), all-alike n (i + 1) s t (λ j l. h j (omega arith))) refl
+
+pub and-true : (b : Bool) → (b && true) ≡ b
+and-true true = refl
+and-true false = refl
+
+-- one more number behind a run
+pub all-behind : (n i : ℕ) (test : ℕ → Bool) → allFrom (suc n) i test ≡ (allFrom n i test && test (i + n))
+unfolding allFrom
+all-behind zero i test = let e : i + 0 ≡ i = omega arith in rw e (and-true (test i))
+all-behind (suc n) i test =
+    let e : i + 1 + n ≡ i + suc n = omega arith in
+    let r : allFrom (suc n) (i + 1) test ≡ (allFrom n (i + 1) test && test (i + suc n)) = rw e at (all-behind n (i + 1) test) in
+    ap (λ (b : Bool). test i && b) r ∙ sym (and-assoc (test i) (allFrom n (i + 1) test) (test (i + suc n)))
+  where
+    and-assoc : (a b c : Bool) → (a && b && c) ≡ (a && (b && c))
+    and-assoc true b c = refl
+    and-assoc false b c = refl
+
+-- a number that fails decides
+pub all-not : (n : ℕ) (test : ℕ → Bool) (j : ℕ) → j < n → test j ≡ false → allFrom n 0 test ≡ false
+all-not n test j h f = by (allFrom n 0 test) refl
+  where
+    by : (b : Bool) → allFrom n 0 test ≡ b → allFrom n 0 test ≡ false
+    by true e = absurd (false≢true (sym f ∙ all-at n 0 test e j (omega arith) (omega arith)))
+    by false e = e

@@ -1,16 +1,17 @@
 -- Laws of the dispatch over the three features. Assumes nothing.
 use Prim.Native.Nat.{ℕ, _≤_}
 use native.Mathlib.Omega.{arith}
-use mathlib.Core.Path.{_≡_}
+use mathlib.Core.Path.{_≡_, refl}
 use mathlib.Core.Bool.{Bool, true, false, not}
 use mathlib.Core.List.{List}
 use lib.ListN.{length}
 use borrow.Author.Tests.{eqb-true, not-true, not-false}
-use Rattle.octets.specs.Laws.{and-left}
+use Rattle.octets.specs.Laws.{and-left, and-right}
 use Rattle.parameters.specs.declared.Feature.{Feature}
 use Rattle.parameters.specs.declared.Feature.the-variants.{Groups, Flow, Applications}
-use Rattle.parameters.specs.ApplicationsLaws.{entries-told}
-use Rattle.parameters.specs.Parameters.{validGroups, validFlow, valid, localValues, validLocal}
+use Rattle.parameters.specs.OursLaws.{ours-whole, ours-ours, all-own}
+use Rattle.parameters.specs.ApplicationsLaws.{Entries, entries-told, entries-valid, local-own}
+use Rattle.parameters.specs.Parameters.{entryCount, oursOf, ours, validGroups, validFlow, valid, localValues, validLocal}
 
 module _ (f : Feature) (p : List ℕ) {b : Bool} where
   pub local-invalid : b ≡ valid f p → not b ≡ true → false ≡ validLocal f p
@@ -25,9 +26,34 @@ module _ (f : Feature) (p : List ℕ) {b : Bool} where
   unfolding validLocal
   local-values g e n h l = rw (← e, not-false b n, h, ← l)
 
--- valid parameters fit in what a state holds
-pub valid-length : (f : Feature) (p : List ℕ) → valid f p ≡ true → length p ≤ 96
-unfolding valid validGroups validFlow
-valid-length Groups p e = let l : length p ≡ 13 = eqb-true (length p) 13 (and-left _ _ (and-left _ _ (and-left _ _ e))) in omega arith
-valid-length Flow p e = let l : length p ≡ 2 = eqb-true (length p) 2 (and-left _ _ e) in omega arith
-valid-length Applications p e = entries-told p e .most
+-- ---- what is ours of valid parameters
+
+-- fits in what a state holds
+pub ours-length : (f : Feature) (p : List ℕ) → valid f p ≡ true → length (ours f p) ≤ 96
+unfolding valid validGroups validFlow ours
+ours-length Groups p e = let l : length p ≡ 13 = eqb-true (length p) 13 (and-left _ _ (and-left _ _ (and-left _ _ e))) in omega arith
+ours-length Flow p e = let l : length p ≡ 2 = eqb-true (length p) 2 (and-left _ _ e) in omega arith
+ours-length Applications p e = entries-told p e .most
+
+-- is valid
+pub valid-ours : (f : Feature) (p : List ℕ) → valid f p ≡ true → valid f (ours f p) ≡ true
+unfolding ours
+valid-ours Groups p e = e
+valid-ours Flow p e = e
+valid-ours Applications p e =
+    let h : Entries p = entries-told p e in
+    entries-valid (oursOf (entryCount p) p)
+    (record {
+      whole = ours-whole p (entryCount p) (omega arith);
+      most = rw (ours-ours Applications p) (h .most);
+      new = rw (ours-ours Applications p) (h .new);
+    })
+
+-- and is all of a local setting
+pub local-ours : (f : Feature) (p : List ℕ) → validLocal f p ≡ true → ours f p ≡ p
+unfolding validLocal ours
+local-ours Groups p e = refl
+local-ours Flow p e = refl
+local-ours Applications p e =
+    all-own p (entries-told p (and-left (valid Applications p) (localValues Applications p) e) .whole)
+    (local-own p (and-right (valid Applications p) (localValues Applications p) e))

@@ -4,9 +4,9 @@ pub mod ListLaws
 pub mod AllLaws
 pub mod GroupsLaws
 pub mod FlowLaws
+pub mod OursLaws
 pub mod ApplicationsLaws
 pub mod FeatureLaws
-pub mod PlainLaws
 pub mod StoringLaws
 pub mod CompatibleLaws
 pub mod WritingLaws

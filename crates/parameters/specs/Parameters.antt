@@ -80,8 +80,30 @@ allFrom (suc n) i test = test i && allFrom n (i + 1) test
 unfoldable pub newName : List ℕ → ℕ → Bool
 newName p i = allFrom i 0 (λ j. not (sameName p i p j))
 
+-- 02, E3: "Document 01 is wrong that the OUI octets are not looked at. An entry is ours exactly if the upper six bits of its third octet are 0
+-- and the next two octets are 1b 21."
+unfoldable pub isOurs : List ℕ → ℕ → Bool
+isOurs p i = at p (6 * i + 2) below 4 && at p (6 * i + 3) is 27 && at p (6 * i + 4) is 33
+
+-- those of the first n entries that are ours, in their order
+unfoldable pub oursOf : ℕ → List ℕ → List ℕ
+oursOf zero p = []
+oursOf (suc n) p = oursOf n p ++ (if isOurs p n then take 6 (drop (6 * n) p) else [])
+
+-- "Others are skipped before duplicates are sought, the limit of 16 counted, or the configuration held or compared." What is held of
+-- parameters that were read; of groups and flow control it is all of them.
+unfoldable pub ours : Feature → List ℕ → List ℕ
+ours Groups p = p
+ours Flow p = p
+ours Applications p = oursOf (entryCount p) p
+
+-- 01: "n 0 to 16 (H)" "Valid: no two entries with the same selector and id."
+unfoldable pub fewAndNew : List ℕ → Bool
+fewAndNew p = length p atmost 96 && allFrom (entryCount p) 0 (newName p)
+
+-- 01: "length 4 + 6n"; what is counted and sought is ours (02, E3)
 unfoldable pub validApplications : List ℕ → Bool
-validApplications p = length p % 6 is 0 && length p atmost 96 && allFrom (entryCount p) 0 (newName p)
+validApplications p = length p % 6 is 0 && fewAndNew (ours Applications p)
 
 -- ---- all three
 
@@ -91,7 +113,8 @@ valid Flow p = validFlow p
 valid Applications p = validApplications p
 
 -- 01, Refusal numbers: "A local setting is valid under the layout rules, with selector 0 or 1 only, and no more ones in the
--- flow control mask than its number of classes (H)."
+-- flow control mask than its number of classes (H)." An application entry that is not ours makes it invalid (docs/DECISIONS.md): who gives
+-- one is told, and nothing is left out in silence.
 unfoldable pub ones : ℕ → ℕ → ℕ
 ones zero x = 0
 ones (suc bits) x = x % 2 + ones bits (x / 2)
@@ -99,15 +122,16 @@ ones (suc bits) x = x % 2 + ones bits (x / 2)
 unfoldable pub localValues : Feature → List ℕ → Bool
 localValues Groups p = true
 localValues Flow p = ones 8 (mask p) atmost flowNumber p
-localValues Applications p = allFrom (entryCount p) 0 (λ i. selectorOf p i below 2)
+localValues Applications p = allFrom (entryCount p) 0 (λ i. isOurs p i && selectorOf p i below 2)
 
 unfoldable pub validLocal : Feature → List ℕ → Bool
 validLocal f p = valid f p && localValues f p
 
 -- 01, Outcome rules: "Compatible (H): groups, equal group numbers and percentages; flow control, equal masks; applications, no
--- selector and id named by both with different maps." The group numbers and percentages are the first twelve octets.
+-- selector and id named by both with different maps." The group numbers and percentages are the first twelve octets. 02, E3: others "are
+-- skipped before .. the configuration held or compared", so two entries clash only if both are ours.
 unfoldable pub clash : List ℕ → ℕ → List ℕ → ℕ → Bool
-clash p i q j = sameName p i q j && not (mapOf p i is mapOf q j)
+clash p i q j = sameName p i q j && isOurs p i && isOurs q j && not (mapOf p i is mapOf q j)
 
 unfoldable pub clearOf : List ℕ → List ℕ → ℕ → Bool
 clearOf p q i = allFrom (entryCount q) 0 (λ j. not (clash p i q j))
@@ -116,24 +140,6 @@ unfoldable pub compatible : Feature → List ℕ → List ℕ → Bool
 compatible Groups p q = same (take 12 p) (take 12 q)
 compatible Flow p q = mask p is mask q
 compatible Applications p q = allFrom (entryCount p) 0 (clearOf p q)
-
--- What is stored of parameters that were read: "The OUI octets of an entry are not looked at when reading", so an application entry
--- is stored, and written again, with OUI 00 1b 21. Its octet i of six, from i on.
-unfoldable pub plainOctet : ℕ → ℕ → ℕ
-plainOctet i x =
-    if i % 6 is 2 then x % 4
-    else if i % 6 is 3 then 27
-    else if i % 6 is 4 then 33
-    else x
-
-unfoldable pub plainFrom : ℕ → List ℕ → List ℕ
-plainFrom i [] = []
-plainFrom i (x ∷ xs) = plainOctet i x ∷ plainFrom (i + 1) xs
-
-unfoldable pub plain : Feature → List ℕ → List ℕ
-plain Groups p = p
-plain Flow p = p
-plain Applications p = plainFrom 0 p
 
 -- as a state holds octets: 96 places, zero past the length
 unfoldable pub stored : List ℕ → Parameters

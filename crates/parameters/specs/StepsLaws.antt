@@ -2,27 +2,21 @@
 use Prim.Native.Nat.{ℕ, _/_, _%_}
 use mathlib.Core.Bool.{Bool, not, _&&_}
 use mathlib.Core.List.{List}
+use lib.ListN.{getD}
 use Rattle.octets.specs.Words.{_below_}
-use Rattle.parameters.specs.declared.Feature.{Feature}
-use Rattle.parameters.specs.declared.Feature.the-variants.{Groups, Flow, Applications}
-use Rattle.parameters.specs.Parameters.{goodGroup, selectorOf, sameName, clash, plainOctet}
+use Rattle.parameters.specs.Parameters.{goodGroup, selectorOf, sameName, isOurs, clash}
 
 -- the two group numbers in an octet are good
 abbrev pub twoGroups : ℕ → Bool
 twoGroups x = goodGroup (x / 16) && goodGroup (x % 16)
 
--- entries i and j have different names
-unfoldable pub otherName : List ℕ → ℕ → ℕ → Bool
-otherName p i j = not (sameName p i p j)
+-- entry i has not the name of the entry whose place is noted as the j-th
+unfoldable pub otherName : List ℕ → ℕ → List ℕ → ℕ → Bool
+otherName p i places j = not (sameName p i p (getD places j 0))
 
-unfoldable pub lowSelector : List ℕ → ℕ → Bool
-lowSelector p i = selectorOf p i below 2
+-- entry i may stand in a local setting
+unfoldable pub localEntry : List ℕ → ℕ → Bool
+localEntry p i = isOurs p i && selectorOf p i below 2
 
 unfoldable pub noClash : List ℕ → List ℕ → ℕ → ℕ → Bool
 noClash p q i j = not (clash p i q j)
-
--- octet x at place i of a feature's parameters, as it is stored
-unfoldable pub storedOctet : Feature → ℕ → ℕ → ℕ
-storedOctet Groups i x = x
-storedOctet Flow i x = x
-storedOctet Applications i x = plainOctet i x

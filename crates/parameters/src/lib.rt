@@ -1,8 +1,6 @@
 // The parameters of the three features: what is valid, what is compatible, and how they are stored.
 ghost use mathlib.Core.Path.{_≡_};
-ghost use Prim.Native.Nat.{_≤_, min};
-ghost use Rattle.parameters.specs.Parameters.{compatible, featureNumber, plain, sameParameters, stored, valid, validLocal};
-ghost use Rattle.parameters.specs.StepsLaws.{storedOctet};
+ghost use Rattle.parameters.specs.Parameters.{compatible, featureNumber, ours, sameParameters, stored, valid, validLocal};
 
 pub mod applications;
 pub mod flow;
@@ -69,38 +67,27 @@ pub fn compatible(f: Feature, p: &[u8], q: &[u8]) -> bool
     }
 }
 
-// The octets that are stored of a length: at most 96.
-pub fn clamped(n: usize) -> usize
-    ensures { λ r. ⌜ (r ≡ min n 96) × (r ≤ 96) ⌝ }
+// Octets as a state holds them: at most 96, and zero behind them.
+fn store_all(p: &[u8]) -> Parameters
+    ensures { λ r. ⌜ r ≡ stored (now (p .entry)) ⌝ }
 {
-    if n < 96 { n } else { 96 }
+    let s = octets::first(p, 96);
+    let mut kept = [0; 96];
+    octets::numbers::put(&mut kept, 0, s);
+    Parameters {
+        length: (s.len() % 256) as u8,
+        octets: kept,
+    }
 }
 
-// Octet `x` at place i of a feature's parameters, as it is stored.
-fn stored_octet(f: Feature, i: usize, x: u8) -> u8
-    ensures { λ r. ⌜ r ≡ storedOctet f i x ⌝ }
+// The parameters as a state holds them: of applications the entries that are ours.
+pub fn store(f: Feature, p: &[u8]) -> Parameters
+    ensures { λ r. ⌜ r ≡ stored (ours f (now (p .entry))) ⌝ }
 {
     match f {
-        Feature::Groups => x,
-        Feature::Flow => x,
-        Feature::Applications => applications::plain_octet(i, x),
-    }
-}
-
-// The parameters as a state holds them: at most 96 octets, application entries with OUI 00 1b 21.
-pub fn store(f: Feature, p: &[u8]) -> Parameters
-    ensures { λ r. ⌜ r ≡ stored (plain f (now (p .entry))) ⌝ }
-{
-    let n = clamped(p.len());
-    let mut kept = [0; 96];
-    let mut i: usize = 0;
-    while i < n {
-        kept[i] = stored_octet(f, i, p[i]);
-        i += 1;
-    }
-    Parameters {
-        length: (n % 256) as u8,
-        octets: kept,
+        Feature::Groups => store_all(p),
+        Feature::Flow => store_all(p),
+        Feature::Applications => applications::store(p),
     }
 }
 

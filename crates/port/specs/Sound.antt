@@ -14,9 +14,10 @@ use Rattle.port.specs.declared.Control.{Control}
 use Rattle.port.specs.declared.Port.{Port}
 use Rattle.port.specs.Parts.{featureOf}
 
--- valid parameters as a state holds them: 96 places, zero past the length, application entries with OUI 00 1b 21
+-- valid parameters as a state holds them: 96 places, zero past the length, and no application entry but our own
 pub record SoundParameters (f : Feature) (p : Parameters) : Type 0 where
-  pub whole : p ≡ parameters.stored (parameters.plain f (parameters.content p))
+  pub whole : p ≡ parameters.stored (parameters.content p)
+  pub own : parameters.ours f (parameters.content p) ≡ parameters.content p
   pub valid : parameters.valid f (parameters.content p) ≡ true
 
 pub record SoundSetting (f : Feature) (s : Setting) : Type 0 where

@@ -1,23 +1,23 @@
 -- Writing a frame and the wish to send: what their functions promise, and a law for each way out of them, with premises in the form in
 -- which a test leaves them. Assumes nothing.
-use Prim.Native.Nat.{ℕ, _+_, _-_, _/_, _%_, _<_, _≤_, _^_}
+use Prim.Native.Nat.{ℕ, _+_, _-_, _/_, _<_, _≤_, _^_}
 use mathlib.Core.Path.{_≡_, _∙_, refl, sym, ap, ap₂}
 use mathlib.Core.Bool.{Bool, true, false, not, _||_, Bool·beq, false≢true}
 use mathlib.Core.List.{List, [], _∷_, _++_}
 use native.Mathlib.Omega.{arith}
 use native.Mathlib.Nat.{zero-add}
-use borrow.Author.Tests.{not-true, not-false, lt-ltb, le-ltb, eqb-true, leb-true}
-use lib.Dec.{eqb}
+use borrow.Author.Tests.{not-true, not-false, lt-ltb, le-ltb, eqb-true}
 use lib.ListN.{length, drop, take, length-append}
 use lib.Seq.{sets, sets-eq, take-append-seam, drop-append-seam, take-at, drop-at}
 use Rattle.octets.specs.Words.{if_then_else_}
 use Rattle.octets.specs.Octets.{at, number4, octets4, same, headed, head}
-use Rattle.octets.specs.Laws.{and-left, and-right, same-is, same-refl, unlike, sets-append}
+use Rattle.octets.specs.Laws.{and-left, same-is, same-refl, unlike, sets-append}
 use Rattle.tlv.specs.declared.Refusal.the-variants.{NotRunning, ShortOutput}
 use Rattle.tlv.specs.Layout.{frameHead}
 use Rattle.parameters.specs.declared.Feature.{Feature}
 use Rattle.parameters.specs.declared.Feature.the-variants.{Groups, Flow, Applications}
-use Rattle.parameters.specs.Parameters.{featureNumber, content, validGroups, validFlow, validApplications, valid}
+use Rattle.parameters.specs.Parameters.{featureNumber, content, validGroups, validFlow, valid, ours}
+use Rattle.parameters.specs.FeatureLaws.{ours-length}
 use Rattle.feature.specs.declared.State.{State}
 use Rattle.feature.specs.State.{value, subTlv, changed}
 use Rattle.feature.specs.StateLaws.{Sized, changed-not}
@@ -341,15 +341,15 @@ most Groups = 13
 most Flow = 2
 most Applications = 96
 
-valid-length : (f : Feature) (o : List ℕ) → valid f o ≡ true → length o ≤ most f
-unfolding valid validGroups validFlow validApplications
-valid-length Groups o e = let h : length o ≡ 13 = eqb-true (length o) 13 (and-left _ _ (and-left _ _ (and-left _ _ e))) in omega arith
-valid-length Flow o e = let h : length o ≡ 2 = eqb-true (length o) 2 (and-left _ _ e) in omega arith
-valid-length Applications o e = leb-true (length o) 96 (and-right (eqb (length o % 6) 0) _ (and-left _ _ e))
+valid-length : (f : Feature) (o : List ℕ) → valid f o ≡ true → ours f o ≡ o → length o ≤ most f
+unfolding valid validGroups validFlow
+valid-length Groups o e k = let h : length o ≡ 13 = eqb-true (length o) 13 (and-left _ _ (and-left _ _ (and-left _ _ e))) in omega arith
+valid-length Flow o e k = let h : length o ≡ 2 = eqb-true (length o) 2 (and-left _ _ e) in omega arith
+valid-length Applications o e k = rw k at (ours-length Applications o e)
 
 sub-tlv-longest : (f : Feature) (x : State) → SoundState f x → length (subTlv f x) ≤ 6 + most f
 unfolding subTlv
-sub-tlv-longest f x s = here (x .setting .advertise) (valid-length f (content (x .setting .desired)) (s .setting .desired .valid))
+sub-tlv-longest f x s = here (x .setting .advertise) (valid-length f (content (x .setting .desired)) (s .setting .desired .valid) (s .setting .desired .own))
   where
     here : (a : Bool) → length (content (x .setting .desired)) ≤ most f → length (if a then headed (featureNumber f) (value x) else []) ≤ 6 + most f
     here true h = omega arith

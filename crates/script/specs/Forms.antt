@@ -22,7 +22,7 @@ fieldNumber Bit w = if length w is 1 then number 1 w else Not
 fieldNumber (Decimal limit) w = number limit w
 fieldNumber Hex2 w = if length w is 2 && hexDigits w then Is (pairAt w 0) else Not
 fieldNumber Hex4 w = if length w is 4 && hexDigits w then Is (pairAt w 0 * 256 + pairAt w 1) else Not
-fieldNumber Octets w = if isOctets 103 w then Is 0 else Not
+fieldNumber Octets w = if isOctets 507 w then Is 0 else Not
 
 -- a line's last word is what is due, and no other stands behind it
 unfoldable pub oneField : Field → List (List ℕ) → Number

@@ -94,11 +94,11 @@ module _ (w : List ℕ) where
     unfolding fieldNumber
     hex4-read h e t p q m n = simp (eq-eqb (length w) 4 h, sym e ∙ not-false b t, q, p, n, m)
 
-    pub octets-read : b ≡ isOctets 103 w → b ≡ true → Is 0 ≡ fieldNumber Octets w
+    pub octets-read : b ≡ isOctets 507 w → b ≡ true → Is 0 ≡ fieldNumber Octets w
     unfolding fieldNumber
     octets-read e t = simp (sym e ∙ t)
 
-    pub octets-other : b ≡ isOctets 103 w → b ≡ false → Not ≡ fieldNumber Octets w
+    pub octets-other : b ≡ isOctets 507 w → b ≡ false → Not ≡ fieldNumber Octets w
     unfolding fieldNumber
     octets-other e t = simp (sym e ∙ t)
 

@@ -89,7 +89,7 @@ fn hex4(w: &[u8]) -> Number
 fn octets_word(w: &[u8]) -> Number
     ensures { λ r. ⌜ r ≡ fieldNumber Field.Octets (now (w .entry)) ⌝ }
 {
-    if text::is_octets(w, 103) {
+    if text::is_octets(w, 507) {
         return Number::Is(0);
     }
     Number::Not

@@ -15,8 +15,7 @@ fn bits(setting: &OwnedSetting) -> String {
     format!("{} {} {}", bit(setting.advertise), bit(setting.enable), bit(setting.willing))
 }
 
-/// Valid settings as four lines. Other octets than 00 1b 21 of an entry's OUI
-/// are not looked at and cannot be said.
+/// Valid settings as four lines. Their entries have OUI 00 1b 21.
 fn settings_lines(settings: &OwnedSettings) -> String {
     let [(groups_max, groups), (flow_max, flow), (applications_max, applications)] =
         &settings.feature;
@@ -62,7 +61,7 @@ fn event_line(event: &Event) -> String {
             format!("{name} {}", u8::from(*on))
         }
         Event::Change { feature, setting } => {
-            let long = setting.parameters.len() > 103;
+            let long = setting.parameters.len() > 507;
             let said = if long { "# too long: " } else { "" };
             let parameters = hex(&setting.parameters);
             format!("{said}set {feature} {} {parameters}", bits(setting))

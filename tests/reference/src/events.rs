@@ -204,7 +204,7 @@ pub mod random {
         vec![mask, classes]
     }
 
-    /// So many entries, no two of one name. The OUI may be another's.
+    /// So many entries of our own, no two of one name.
     fn entries(rng: &mut XorShift, count: usize, local: bool) -> Vec<u8> {
         let mut octets: Vec<u8> = Vec::new();
         while octets.len() < 6 * count {
@@ -223,14 +223,50 @@ pub mod random {
                 continue;
             }
             let map = if rng.percent(70) { rng.pick(&[0x08, 0x10]) } else { rng.octet() };
-            if rng.percent(85) {
-                octets.extend([high, low, selector, OUI[1], OUI[2], map]);
-            } else {
-                let above = rng.octet() & 0xfc;
-                octets.extend([high, low, above | selector, rng.octet(), rng.octet(), map]);
-            }
+            octets.extend([high, low, selector, OUI[1], OUI[2], map]);
         }
         octets
+    }
+
+    /// An entry under another's OUI, often for what one of these is for.
+    fn foreign(rng: &mut XorShift, among: &[u8]) -> [u8; 6] {
+        let mut entry =
+            [rng.octet(), rng.octet(), rng.octet(), rng.octet(), rng.octet(), rng.octet()];
+        if !among.is_empty() && rng.percent(70) {
+            let place = 6 * rng.below((among.len() / 6) as u32) as usize;
+            entry[..2].copy_from_slice(&among[place..place + 2]);
+            entry[2] = entry[2] & 0xfc | among[place + 2] & 3;
+            entry[5] = if rng.flip() { among[place + 5] } else { rng.pick(&[0x08, 0x10]) };
+        }
+        let own = [entry[2] & 3, OUI[1], OUI[2]];
+        match rng.below(5) {
+            // Of the OUI only the bits above the selector differ, or one octet.
+            0 => entry[2..5].copy_from_slice(&[own[0] | 4 << rng.below(6), own[1], own[2]]),
+            1 => entry[2..5].copy_from_slice(&[own[0], own[1] ^ 1 << rng.below(8), own[2]]),
+            2 => entry[2..5].copy_from_slice(&[own[0], own[1], own[2] ^ 1 << rng.below(8)]),
+            _ if entry[2..5] == own => entry[3] ^= 0x80,
+            _ => {}
+        }
+        entry
+    }
+
+    /// The entries in their order, with others' before, between and behind:
+    /// mostly a few, sometimes as many as a frame or a sub-TLV can hold.
+    pub fn among_foreign(rng: &mut XorShift, own: &[u8]) -> Vec<u8> {
+        let count = own.len() / 6;
+        let most = match rng.below(12) {
+            0 => rng.pick(&[84, 81, 77, 70]),
+            1 => count as u32 + 1 + rng.below(60),
+            _ => count as u32 + 1 + rng.below(4),
+        };
+        let mut entries: Vec<[u8; 6]> =
+            own.chunks(6).map(|entry| entry.try_into().unwrap()).collect();
+        while entries.len() < most.min(84) as usize || entries.len() == count {
+            let place = rng.below(entries.len() as u32 + 1) as usize;
+            let next = foreign(rng, own);
+            entries.insert(place, next);
+        }
+        entries.concat()
     }
 
     fn applications(rng: &mut XorShift, local: bool) -> Vec<u8> {
@@ -240,7 +276,12 @@ pub mod random {
             2 => rng.below(17) as usize,
             _ => 1 + rng.below(3) as usize,
         };
-        entries(rng, count, local)
+        let own = entries(rng, count, local);
+        if local || rng.percent(55) {
+            own
+        } else {
+            among_foreign(rng, &own)
+        }
     }
 
     /// Valid parameters, as a local setting or as they may be received.
@@ -279,23 +320,28 @@ pub mod random {
                     octets[1] = rng.below(octets[0].count_ones()) as u8;
                 }
             },
-            _ => match rng.below(if local { 4 } else { 3 }) {
+            _ => match rng.below(if local { 5 } else { 3 }) {
                 0 => {
                     let count = 17 + rng.below(3) as usize;
-                    return entries(rng, count, local);
+                    octets = entries(rng, count, local);
+                    if rng.flip() {
+                        octets = among_foreign(rng, &octets);
+                    }
                 }
                 1 => {
                     // One name twice.
-                    octets.truncate(6 * (MOST_ENTRIES - 1));
-                    if octets.is_empty() {
-                        octets = entries(rng, 1, local);
-                    }
+                    let count = 1 + rng.below(MOST_ENTRIES as u32 - 1) as usize;
+                    octets = entries(rng, count, local);
                     let mut again = octets[..6].to_vec();
-                    again[2] ^= rng.octet() & 0xfc;
                     again[5] = rng.octet();
                     octets.extend(again);
+                    if rng.flip() {
+                        octets = among_foreign(rng, &octets);
+                    }
                 }
                 2 => return wrong_length(rng, octets, 6),
+                // An entry that is not ours, in a setting.
+                3 => octets = among_foreign(rng, &octets),
                 _ => {
                     // A selector no setting may have.
                     octets.truncate(6 * (MOST_ENTRIES - 1));
@@ -326,6 +372,10 @@ pub mod random {
     /// Parameters like these: equal, a little changed, or others.
     pub fn near(rng: &mut XorShift, feature: u8, like: &[u8], local: bool) -> Vec<u8> {
         if rng.percent(45) {
+            // What is not ours makes no other configuration.
+            if feature == APPLICATIONS && !local && rng.flip() {
+                return among_foreign(rng, like);
+            }
             return like.to_vec();
         }
         if rng.percent(50) {
@@ -553,7 +603,7 @@ impl Generator {
             }
         }
         if rng.percent(10) {
-            // Another OUI makes no other setting.
+            // Another OUI is in no setting.
             if like == APPLICATIONS && setting.parameters.len() >= 6 {
                 setting.parameters[2] ^= 0x40;
                 setting.parameters[3] = rng.octet();

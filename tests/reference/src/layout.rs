@@ -278,7 +278,7 @@ impl Entry {
     }
 }
 
-/// Up to 16 applications. What stands past the count means nothing.
+/// Up to 16 applications of our own. What stands past the count means nothing.
 #[derive(Clone, Copy, Debug)]
 pub struct Applications {
     entry: [Entry; MOST_ENTRIES],
@@ -305,18 +305,20 @@ impl Parameters for Applications {
 
     #[inline]
     fn read(octets: &[u8]) -> Option<Self> {
-        if !octets.len().is_multiple_of(6) || octets.len() > 6 * MOST_ENTRIES {
+        if !octets.len().is_multiple_of(6) {
             return None;
         }
         let mut entry = [Entry::default(); MOST_ENTRIES];
         let mut count = 0;
         for octets in octets.chunks_exact(6) {
-            // The OUI bits and octets are not looked at.
-            let next = Entry {
-                id: u16::from_be_bytes([octets[0], octets[1]]),
-                selector: octets[2] & 0x03,
-                map: octets[5],
+            // Another's entry is skipped before anything is asked of it (02, E3).
+            let &[high, low, upper @ 0..=3, 0x1b, 0x21, map] = octets else {
+                continue;
             };
+            let next = Entry { id: u16::from_be_bytes([high, low]), selector: upper, map };
+            if count == MOST_ENTRIES {
+                return None;
+            }
             if entry[..count].iter().any(|earlier| earlier.names_as(&next)) {
                 return None;
             }

@@ -32,10 +32,12 @@ pub struct FeatureSetting<P> {
 }
 
 impl<P: Parameters> FeatureSetting<P> {
-    /// Reads and judges a local setting: refusal 9 if invalid.
+    /// Reads and judges a local setting: refusal 9 if invalid. An entry that
+    /// is not ours may not stand in a setting: nothing of one is left out.
     pub fn read(setting: &Setting) -> Result<Self, u8> {
+        let whole = |parameters: &P| parameters.length() == setting.parameters.len();
         match P::read(setting.parameters) {
-            Some(parameters) if parameters.local() => Ok(FeatureSetting {
+            Some(parameters) if whole(&parameters) && parameters.local() => Ok(FeatureSetting {
                 advertise: setting.advertise,
                 enable: setting.enable,
                 willing: setting.willing,

@@ -11,8 +11,8 @@ fn equal_settings_change_nothing() {
         for number in 2..=4 {
             assert_eq!(card.change(number, true, true, false, w2_parameters(number)), Ok(false));
         }
-        // The OUI is no part of a setting.
-        assert_eq!(card.change(4, true, true, false, &hex("89 06 fc 00 00 08")), Ok(false));
+        // Under another OUI it is none of ours, and no setting.
+        assert_eq!(card.change(4, true, true, false, &hex("89 06 fc 00 00 08")), Err(9));
         assert_eq!(card.dump(), before);
     }
 }

@@ -4,7 +4,7 @@
 mod common;
 use common::*;
 use reference::events::{Event, Generator, FILL};
-use reference::layout::Controls;
+use reference::layout::{Controls, Found};
 use reference::{Card, Reason};
 use std::collections::BTreeMap;
 
@@ -102,8 +102,41 @@ fn happened(event: &Event, before: &Card, after: &Card, mut count: impl FnMut(&'
             if after.applications().opercfg.entries().len() == 16 {
                 count("frame: 16 entries in OperCfg");
             }
+            if let (Found::Once([_, _, _, _, entries @ ..]), Some(peer)) =
+                (received.applications, after.feature(4).peer)
+            {
+                skipped(entries, &peer.parameters, &mut count);
+            }
         }
         _ => {}
+    }
+}
+
+/// Names what foreign entries came beside those that are held. (After a frame
+/// whose control has another Oper these may be an earlier frame's.)
+fn skipped(came: &[u8], held: &[u8], mut count: impl FnMut(&'static str)) {
+    let ours = |entry: &&[u8]| entry[2] < 4 && entry[3..5] == [0x1b, 0x21];
+    let own: Vec<u8> = came.chunks_exact(6).filter(ours).flatten().copied().collect();
+    if came.len() % 6 != 0 || own != held || came == held {
+        return;
+    }
+    count("frame: foreign entries skipped");
+    if came.len() > 6 * 16 && !held.is_empty() {
+        count("frame: more than 16 entries, some of them ours");
+    }
+    if came.len() >= 6 * 70 {
+        count("frame: 70 entries or more");
+    }
+    if held.is_empty() {
+        count("frame: all foreign");
+    }
+    let named = |e: &[u8]| held.chunks(6).any(|h| h[..2] == e[..2] && h[2] == e[2] & 3);
+    for entry in came.chunks(6).filter(|entry| !ours(entry) && named(entry)) {
+        match (entry[2] >= 4, entry[3..5] == [0x1b, 0x21]) {
+            (true, true) => count("frame: foreign by the upper six bits alone, named as ours"),
+            (false, false) => count("frame: foreign by 1b 21 alone, named as ours"),
+            _ => {}
+        }
     }
 }
 
@@ -268,8 +301,8 @@ fn all_occur_and_all_is_kept() {
     assert!(noticed[2..].iter().all(|&count| count > 100));
     assert_eq!(noticed[..2], [0, 0]);
     assert!(dropped > 1000);
-    // Ten kinds of change, eleven of frame, and synced.
-    assert_eq!(rare.len(), 22);
+    // Ten kinds of change, seventeen of frame, and synced.
+    assert_eq!(rare.len(), 28);
     assert!(rare.values().all(|&count| count > 100));
 }
 

@@ -116,6 +116,11 @@ fn rule_4_waiting() {
     }
 }
 
+/// So many entries of our own.
+fn own(count: u8) -> Vec<u8> {
+    (0..count).flat_map(|i| [0, i, 0, 0x1b, 0x21, 8]).collect()
+}
+
 /// Parameters that no one may send.
 fn bad(number: u8) -> Vec<Vec<u8>> {
     let mut list = vec![w2_parameters(number)[1..].to_vec()];
@@ -136,8 +141,15 @@ fn bad(number: u8) -> Vec<Vec<u8>> {
         }
         _ => {
             list.push(hex("89 06 00 1b 21 08 89 06 00 1b 21 08"));
-            list.push(hex("89 06 03 1b 21 08 00 00 00 1b 21 01 89 06 07 00 00 10"));
-            list.push((0..17).flat_map(|i| [0, i, 0, 0x1b, 0x21, 8]).collect());
+            list.push(hex("89 06 03 1b 21 08 00 00 00 1b 21 01 89 06 03 1b 21 10"));
+            // Foreign ones before, between and behind do not make them good.
+            list.push(hex(
+                "89 06 00 00 21 08 89 06 00 1b 21 08 89 06 04 1b 21 08 89 06 00 1b 21 08",
+            ));
+            list.push([hex("00 01 00 1b 00 08"), own(17), hex("00 01 80 1b 21 08")].concat());
+            // The length is, whosever entries they are.
+            list.push(hex("89 06 00 00 00 08 89"));
+            list.push(own(17));
         }
     }
     list
@@ -158,11 +170,11 @@ fn rule_5_bad() {
 
 #[test]
 fn what_may_be_received_though_not_set() {
-    // More ones than classes; selectors 2 and 3; another OUI.
+    // More ones than classes; selectors 2 and 3; entries that are not ours.
     for (number, parameters, held) in [
         (3, vec![0xff, 0], vec![0xff, 0]),
         (4, hex("89 06 02 1b 21 08"), hex("89 06 02 1b 21 08")),
-        (4, hex("89 06 fb 00 00 08 89 06 fc 01 02 08"), hex("89 06 03 1b 21 08 89 06 00 1b 21 08")),
+        (4, hex("89 06 03 1b 21 08 89 06 fc 01 02 08"), hex("89 06 03 1b 21 08")),
         (
             2,
             hex("ff 77 00 0f 64 00 00 00 00 00 00 00 00"),
@@ -174,6 +186,45 @@ fn what_may_be_received_though_not_set() {
         assert_eq!(view.reason, Reason::Agreed);
         assert_eq!(view.opercfg, held);
         assert_eq!(view.peer.unwrap().parameters, held);
+    }
+}
+
+/// A foreign entry, so many times.
+fn foreign(count: usize) -> Vec<u8> {
+    hex("89 06 00 0e 87 10").repeat(count)
+}
+
+#[test]
+fn entries_that_are_not_ours_are_skipped() {
+    let ours = hex("89 06 00 1b 21 08");
+    for (came, held) in [
+        // One foreign and one own entry for the same id.
+        (hex("89 06 00 1b 20 10 89 06 00 1b 21 08"), ours.clone()),
+        (hex("89 06 00 1b 21 08 89 06 00 1b 20 10"), ours.clone()),
+        // 17 entries of which one is foreign; as many as a frame can hold, of which 16 are own.
+        ([own(8), foreign(1), own(16)[48..].to_vec()].concat(), own(16)),
+        ([foreign(57), own(16), foreign(8)].concat(), own(16)),
+        // All are foreign, the same one many times.
+        (foreign(81), vec![]),
+        // Each bit above the selector and each bit of the two octets counts.
+        ((2..8).flat_map(|bit| [0x89, 6, 1 << bit, 0x1b, 0x21, 8]).collect(), vec![]),
+        ((0..8).flat_map(|bit| [0x89, 6, 0, 0x1b ^ 1 << bit, 0x21, 8]).collect(), vec![]),
+        ((0..8).flat_map(|bit| [0x89, 6, 0, 0x1b, 0x21 ^ 1 << bit, 8]).collect(), vec![]),
+        // The selector does not.
+        (
+            (0..4).flat_map(|selector| [0x89, 6, selector, 0x1b, 0x21, 8]).collect(),
+            (0..4).flat_map(|selector| [0x89, 6, selector, 0x1b, 0x21, 8]).collect(),
+        ),
+    ] {
+        // A willing end adopts what is held.
+        let mut willing = card(&local(4, true, true));
+        let view = give(&mut willing, 4, &[feature(4, 2, 2, 0x80, &came)]);
+        assert_eq!(view.reason, Reason::Agreed, "{came:02x?}");
+        assert_eq!(view.opercfg, held);
+        assert_eq!(view.peer.unwrap().parameters, held);
+        // A setting with a foreign entry is none.
+        let set = willing.change(4, true, true, false, &came);
+        assert_eq!(set == Err(9), came != held || held.len() == 24);
     }
 }
 
@@ -242,13 +293,16 @@ fn compatible() {
         (4, vec![], APPLICATIONS.to_vec(), true),
         (4, APPLICATIONS.to_vec(), hex("89 06 01 1b 21 10"), true),
         (4, APPLICATIONS.to_vec(), hex("89 07 00 1b 21 10"), true),
-        // Another order and another OUI.
+        // Another order.
         (
             4,
             hex("89 06 00 1b 21 08 89 14 00 1b 21 10"),
-            hex("89 14 fc 00 00 10 89 06 00 ff ff 08"),
+            hex("89 14 00 1b 21 10 89 06 00 1b 21 08"),
             true,
         ),
+        // A foreign entry clashes with none, and hides none that clashes.
+        (4, APPLICATIONS.to_vec(), hex("89 06 fc 00 00 10 89 06 00 1b 21 08"), true),
+        (4, APPLICATIONS.to_vec(), hex("89 06 00 00 00 08 89 06 00 1b 21 10"), false),
         // The last clashes with the first.
         (
             4,

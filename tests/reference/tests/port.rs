@@ -245,8 +245,7 @@ fn written_frames() {
     settings.feature[1].0 = 4;
     settings.feature[1].1.willing = true;
     settings.feature[2].1.enable = false;
-    // The setting's OUI bits and octets are not looked at.
-    settings.feature[2].1.parameters = hex("89 14 fd aa bb 08 89 06 00 1b 21 10");
+    settings.feature[2].1.parameters = hex("89 14 01 1b 21 08 89 06 00 1b 21 10");
     let expected = hex("fe 2a 00 1b 21 02 02 0a 09 09 00 00 00 01 00 00 00 00 \
          06 06 04 04 c0 00 08 08 08 10 00 00 00 00 89 14 01 1b 21 08 89 06 00 1b 21 10");
     assert_eq!(written(&card(&settings)).unwrap(), expected);

@@ -54,6 +54,23 @@ fn frames(settings: &OwnedSettings, clash: bool) -> (Vec<u8>, usize) {
     (frames, size)
 }
 
+/// The frames with so many of others' entries before their own, which stand last.
+fn among_foreign(frames: &[u8], size: usize, count: usize) -> (Vec<u8>, usize) {
+    let foreign = [0x89, 0x06, 0x00, 0x0e, 0x87, 0x10].repeat(count);
+    let first = 6 + 12 + 19 + 8 + 6;
+    let mut longer = Vec::new();
+    for frame in frames.chunks_exact(size) {
+        let (before, own) = frame.split_at(first);
+        let start = longer.len();
+        longer.extend([before, &foreign, own].concat());
+        let head = layout::head(layout::TLV_TYPE, longer.len() - start - 2);
+        longer[start..start + 2].copy_from_slice(&head);
+        let head = layout::head(layout::APPLICATIONS, 4 + foreign.len() + own.len());
+        longer[start + first - 6..start + first - 4].copy_from_slice(&head);
+    }
+    (longer, size + foreign.len())
+}
+
 #[inline(never)]
 fn read_many(frames: &[u8], size: usize, times: usize) -> u64 {
     let all = frames.chunks_exact(size).cycle();
@@ -149,6 +166,15 @@ fn engines() {
             || engine::handle_many(&creation, &clashing, size, TIMES),
             || handle_many(&settings, black_box(&clashing), size, TIMES),
         );
+        if applications == 16 {
+            // As many as a frame can hold beside W2's other sub-TLVs.
+            let (mixed, size) = among_foreign(&plain, size, 61);
+            compare(
+                "handle, frame of 77 entries, 16 ours",
+                || engine::handle_many(&creation, &mixed, size, TIMES),
+                || handle_many(&settings, black_box(&mixed), size, TIMES),
+            );
+        }
         let (mut ours, mut theirs) = ([0; LONGEST_FRAME], [0; LONGEST_FRAME]);
         compare(
             &format!("write, {name}"),

@@ -7,7 +7,7 @@ use std::io;
 
 /// The most octets of a frame, of parameters and of an output that a line names.
 const FRAME: usize = 513;
-const PARAMETERS: usize = 103;
+const PARAMETERS: usize = 507;
 const ROOM: usize = 1000;
 
 struct Desk {

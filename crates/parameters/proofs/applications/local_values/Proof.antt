@@ -1,16 +1,16 @@
--- `applications::local_values` meets its contract: each selector before i is 0 or 1. Assumes nothing.
+-- `applications::local_values` meets its contract: each entry before i is ours, with selector 0 or 1. Assumes nothing.
 use Prim.Native.Nat.{_-_}
 use borrow.Author.Needs.{needs}
 use native.Mathlib.Omega.{arith}
 use Rattle.parameters.specs.Parameters.{entryCount}
 use Rattle.parameters.specs.AllLaws.{Passed, passed-start}
-use Rattle.parameters.specs.StepsLaws.{lowSelector}
-use Rattle.parameters.specs.ApplicationsLaws.{selector-high, selector-more, selectors-low}
+use Rattle.parameters.specs.StepsLaws.{localEntry}
+use Rattle.parameters.specs.ApplicationsLaws.{local-foreign, selector-high, local-more, local-end}
 use Rattle.parameters.proofs.applications.local_values.Statement.{statement}
 use Rattle.parameters.proofs.applications.local_values.Tie as tie
 
 abbrev Inv-loop : tie.InvT-loop
-Inv-loop p n i₀ i = Passed (entryCount p) (lowSelector p) i
+Inv-loop p n i₀ i = Passed (entryCount p) (localEntry p) i
 
 abbrev μ-loop : tie.MeasureT-loop
 μ-loop p n i₀ i = entryCount p - i
@@ -18,11 +18,17 @@ abbrev μ-loop : tie.MeasureT-loop
 loop-holds : tie.Need-loop-holds Inv-loop μ-loop
 loop-holds c = search passed-start
 
+is-ours-requires : tie.Need-is-ours-requires Inv-loop μ-loop
+is-ours-requires c κs = search needs
+
+returns : tie.Need-returns Inv-loop μ-loop
+returns c = search local-foreign
+
 selector-of-requires : tie.Need-selector-of-requires Inv-loop μ-loop
 selector-of-requires c κs = search needs
 
-returns : tie.Need-returns Inv-loop μ-loop
-returns c = search selector-high
+returns-2 : tie.Need-returns-2 Inv-loop μ-loop
+returns-2 c = search selector-high
 
 add-i : tie.Need-add-i Inv-loop μ-loop
 add-i c = omega arith
@@ -31,10 +37,10 @@ loop-less : tie.Need-loop-less Inv-loop μ-loop
 loop-less c = omega arith
 
 loop-again : tie.Need-loop-again Inv-loop μ-loop
-loop-again c = search selector-more
+loop-again c = search local-more
 
-returns-2 : tie.Need-returns-2 Inv-loop μ-loop
-returns-2 c = search selectors-low
+returns-3 : tie.Need-returns-3 Inv-loop μ-loop
+returns-3 c = search local-end
 
 pub local-values-spec : {M : Type 1} → statement M
 local-values-spec =
@@ -43,9 +49,11 @@ local-values-spec =
     Inv-loop
     μ-loop
     loop-holds
-    selector-of-requires
+    is-ours-requires
     returns
+    selector-of-requires
+    returns-2
     add-i
     loop-less
     loop-again
-    returns-2)
+    returns-3)

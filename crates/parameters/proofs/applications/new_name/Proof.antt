@@ -1,24 +1,30 @@
--- `applications::new_name` meets its contract: no entry before j has the name. Assumes nothing.
+-- `applications::new_name` meets its contract: none of the first j noted entries has the name. Assumes nothing.
 use Prim.Native.Nat.{_-_}
 use borrow.Author.Needs.{needs}
 use native.Mathlib.Omega.{arith}
-use Rattle.parameters.specs.AllLaws.{Passed, passed-start}
+use Rattle.parameters.specs.AllLaws.{Passed, passed-start, passed-end}
 use Rattle.parameters.specs.StepsLaws.{otherName}
-use Rattle.parameters.specs.ApplicationsLaws.{name-again, name-more, name-new}
+use Rattle.parameters.specs.ApplicationsLaws.{place-there, place-entry, name-again, name-more}
 use Rattle.parameters.proofs.applications.new_name.Statement.{statement}
 use Rattle.parameters.proofs.applications.new_name.Tie as tie
 
 abbrev Inv-loop : tie.InvT-loop
-Inv-loop p i j₀ j = Passed i (otherName p i) j
+Inv-loop p i places n j₀ j = Passed n (otherName p i places) j
 
 abbrev μ-loop : tie.MeasureT-loop
-μ-loop p i j₀ j = i - j
+μ-loop p i places n j₀ j = n - j
 
 loop-holds : tie.Need-loop-holds Inv-loop μ-loop
 loop-holds c = search passed-start
 
+mul-same-name : tie.Need-mul-same-name Inv-loop μ-loop
+mul-same-name c = search needs
+
+shared-slice-read-same-name : tie.Need-shared-slice-read-same-name Inv-loop μ-loop
+shared-slice-read-same-name c = search place-there
+
 same-name-requires : tie.Need-same-name-requires Inv-loop μ-loop
-same-name-requires c κs = search needs
+same-name-requires c κs = (search needs, search place-entry)
 
 returns : tie.Need-returns Inv-loop μ-loop
 returns c = search name-again
@@ -33,7 +39,7 @@ loop-again : tie.Need-loop-again Inv-loop μ-loop
 loop-again c = search name-more
 
 returns-2 : tie.Need-returns-2 Inv-loop μ-loop
-returns-2 c = search name-new
+returns-2 c = search passed-end
 
 pub new-name-spec : {M : Type 1} → statement M
 new-name-spec =
@@ -42,6 +48,8 @@ new-name-spec =
     Inv-loop
     μ-loop
     loop-holds
+    mul-same-name
+    shared-slice-read-same-name
     same-name-requires
     returns
     add-j

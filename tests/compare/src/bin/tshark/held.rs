@@ -54,6 +54,18 @@ pub fn receivers(fields: &Fields) -> [Receiver; 3] {
     ]
 }
 
+/// Whether the entry at this place is shown under our OUI. The field has the bits above the
+/// selector and the two octets behind it.
+fn is_ours(fields: &Fields, entry: usize) -> bool {
+    fields[&(entry + 2, "dcbx.feature.app.oui".into())].value == 0x00_1b_21
+}
+
+/// How many entries are shown under another.
+pub fn foreign(fields: &Fields) -> usize {
+    let entries = fields.keys().filter(|(_, name)| name == "dcbx.feature.app.proto");
+    entries.filter(|(place, _)| !is_ours(fields, *place)).count()
+}
+
 /// One sub-TLV as shown: the fields of the frame, and where it begins and ends.
 struct SubTlv<'a> {
     fields: &'a Fields,
@@ -108,7 +120,8 @@ impl<'a> SubTlv<'a> {
                     let map = map_shown(self.fields, place);
                     [high, low, OUI[0] | selector as u8, OUI[1], OUI[2], map]
                 };
-                self.all("dcbx.feature.app.proto").flat_map(entry).collect()
+                let ours = |(place, _): &(usize, &Field)| is_ours(self.fields, *place);
+                self.all("dcbx.feature.app.proto").filter(ours).flat_map(entry).collect()
             }
         }
     }

@@ -1,6 +1,8 @@
 //! Frames of the proved engine beside what tshark shows of them: every field with its place and
 //! octets against the settings and state of the card that wrote the frame, and against what a card
-//! that is given the frame holds of its peer. `make tshark` from the top.
+//! that is given the frame holds of its peer. Then the same frames with others' entries among their
+//! applications (document 02, E3): tshark shows every entry with its OUI, and a card that is given
+//! the frame holds those shown under 00 1b 21. `make tshark` from the top.
 //!
 //! COMPARE_SEED and COMPARE_FRAMES give another seed and another number of frames.
 
@@ -14,6 +16,8 @@ use compare::environment;
 use compare::words::hex;
 use dissector::Shown;
 use fields::{Field, Layout};
+use reference::events::{assemble, random};
+use reference::layout::{SubTlv, SubTlvs, APPLICATIONS, FEATURE_HEAD};
 use reference::rng::XorShift;
 use std::collections::{BTreeMap, BTreeSet};
 use std::path::Path;
@@ -72,6 +76,26 @@ fn compare_received(
     differences
 }
 
+/// The frame with others' entries among its applications, where it can hold them.
+fn among_foreign(rng: &mut XorShift, frame: &[u8]) -> Vec<u8> {
+    let mut sub_tlvs = SubTlvs::of(frame).expect("a frame");
+    let mut list = Vec::new();
+    while let Some(SubTlv { kind, body }) = sub_tlvs.hand_out().expect("a sub-TLV") {
+        let mut body = body.to_vec();
+        if kind == APPLICATIONS {
+            let own = body.split_off(FEATURE_HEAD);
+            body.extend(random::among_foreign(rng, &own));
+        }
+        list.push((kind, body));
+    }
+    let mixed = assemble(&list);
+    if mixed.len() <= 513 {
+        mixed
+    } else {
+        frame.to_vec()
+    }
+}
+
 fn of_one_value(shown: &[Shown]) -> Vec<&str> {
     let mut values: BTreeMap<&str, BTreeSet<u64>> = BTreeMap::new();
     for ((_, name), field) in shown.iter().flat_map(|shown| &shown.fields) {
@@ -114,6 +138,27 @@ fn main() -> ExitCode {
         println!("too few frames: {:?} had one value each", of_one_value(&shown));
         return ExitCode::FAILURE;
     }
-    println!("no difference in {fields} fields as written, {held} values as held of the peer");
+    let mixed: Vec<Vec<u8>> =
+        written.iter().map(|written| among_foreign(&mut rng, &written.frame)).collect();
+    dissector::write_capture(&file, mixed.iter().map(Vec::as_slice));
+    let shown = dissector::show(&file);
+    assert_eq!(shown.len(), mixed.len(), "packets shown");
+    let mut skipped = 0;
+    for (number, (frame, shown)) in (1..).zip(mixed.iter().zip(&shown)) {
+        let mut differences = shown.strange.clone();
+        differences.extend(compare_received(&mut rng, frame, shown, &mut held));
+        if !differences.is_empty() {
+            println!("frame {number} of {}: {}", file.display(), hex(frame));
+            println!("{}", differences.join("\n"));
+            return ExitCode::FAILURE;
+        }
+        skipped += held::foreign(&shown.fields);
+    }
+    if skipped == 0 {
+        println!("too few frames: tshark showed no entry under another OUI");
+        return ExitCode::FAILURE;
+    }
+    println!("no difference in {fields} fields as written, {held} values as held of the peer,");
+    println!("{skipped} entries shown under another OUI and held by none");
     ExitCode::SUCCESS
 }
