@@ -1,47 +1,46 @@
-// Events at a card, a line each, and their answers.
-use card::Card;
-use card::Handled;
-use card::Took;
+// Events at a port of a recorder, a line each, and their answers.
 use feature::Switches;
+use notices::Log;
 use port::Answer;
+use port::Event;
 use port::Flag;
-use port::Notices;
+use port::Port;
 use port::Written;
+use recorder::Change;
+use recorder::Took;
 use script::Kind;
 use script::Line;
+use script::PortWord;
+use tlv::Refusal;
 
-// What an event leaves: the card, and the place behind its answer.
+// What an event leaves: the port at hand and the log, and the place behind its answer.
 pub struct Step {
-    pub card: Card,
+    pub port: Port,
+    pub log: Log,
     pub at: usize,
 }
 
 // The answer, and the notices that the event raised.
-pub fn answered(out: &mut [u8], at: usize, a: Answer, raised: Notices) -> usize {
-    match a {
+pub fn answered(out: &mut [u8], at: usize, w: PortWord, e: Event) -> usize {
+    let answer = e.answer;
+    match answer {
         Answer::Refused(r) => report::answers::refused(out, at, r),
         Answer::Done(send) => {
             let behind = report::answers::done(out, at, send);
-            report::answers::raised(out, behind, raised)
+            let end = report::answers::raised(out, behind, e.notices);
+            if end == behind {
+                return end;
+            }
+            report::ports::others(out, at, end, w.given, w.number)
         }
     }
 }
 
-fn stepped(out: &mut [u8], at: usize, h: Handled) -> Step {
-    let card = h.card;
-    let answer = h.answer;
-    let raised = h.raised;
-    Step {
-        card: card,
-        at: answered(out, at, answer, raised),
-    }
-}
-
-// Handles the frame on a line.
-pub fn handle(c: Card, line: &[u8]) -> Handled {
-    let n = script::frame_length(line);
+// Handles the frame on a line at port `n`, which is `p`.
+pub fn handle(n: u8, p: Port, line: &[u8]) -> Event {
+    let k = script::frame_length(line);
     let o = script::frame_octets(line);
-    card::handle(c, octets::first(&o, n))
+    recorder::apply(n, p, Change::Frame, octets::first(&o, k))
 }
 
 fn port_flag(f: script::Flag) -> Flag {
@@ -53,16 +52,11 @@ fn port_flag(f: script::Flag) -> Flag {
     }
 }
 
-fn change_setting(c: Card, number: u8, w: Switches, l: Line) -> Handled {
-    card::change_setting(c, number, w, octets::first(&l.octets, l.n))
-}
-
-// A line that the card answers with `done` or `refused`.
-fn change(c: Card, line: &[u8], l: Line) -> Handled {
-    let kind = l.kind;
-    match kind {
-        Kind::Gone => card::peer_gone(c),
-        Kind::Flag(f, on) => card::set_flag(c, port_flag(f), on),
+// What a line that is answered with `done` or `refused` does at its port.
+fn change_of(k: Kind) -> Change {
+    match k {
+        Kind::Gone => Change::PeerGone,
+        Kind::Flag(f, on) => Change::Flag(port_flag(f), on),
         Kind::Setting {
             number,
             advertise,
@@ -74,27 +68,24 @@ fn change(c: Card, line: &[u8], l: Line) -> Handled {
                 enable: enable,
                 willing: willing,
             };
-            change_setting(c, number, w, l)
+            Change::Setting(number, w)
         }
-        _ => handle(c, line),
+        _ => Change::Frame,
     }
 }
 
-// Writes the frame into an output of `room` octets, or of all where there are fewer.
-fn write_into(c: Card, out: &mut [u8], room: usize) -> Written {
-    if room < out.len() {
-        return card::write(c, &mut out[..room]);
-    }
-    card::write(c, out)
+fn change(n: u8, p: Port, l: Line) -> Event {
+    let kind = l.kind;
+    recorder::apply(n, p, change_of(kind), octets::first(&l.octets, l.n))
 }
 
-// The frame that a request to write gives, or its refusal.
-fn write(out: &mut [u8], at: usize, c: Card, room: usize) -> usize {
-    let mut space = [0; 1000];
-    let w = write_into(c, &mut space, room);
-    match w {
-        Written::Octets(k) => report::answers::frame(out, at, octets::first(&space, k)),
-        Written::Refused(r) => report::answers::refused(out, at, r),
+fn changed(out: &mut [u8], at: usize, w: PortWord, l: Log, e: Event) -> Step {
+    let port = e.port;
+    let log = recorder::keep(l, w.number, e.notices);
+    Step {
+        port: port,
+        log: log,
+        at: answered(out, at, w, e),
     }
 }
 
@@ -105,40 +96,86 @@ fn taken(out: &mut [u8], at: usize, x: Took) -> usize {
     }
 }
 
-fn take(out: &mut [u8], at: usize, c: Card) -> Step {
-    let t = card::take(c);
-    let card = t.card;
+fn take(out: &mut [u8], at: usize, n: u8, p: Port, l: Log) -> Step {
+    let t = recorder::take(n, l);
+    let log = t.log;
     let answer = t.answer;
     Step {
-        card: card,
+        port: p,
+        log: log,
         at: taken(out, at, answer),
     }
 }
 
-// A line that leaves the card as it is.
-fn tell(out: &mut [u8], at: usize, c: Card, number: u64, k: Kind) -> usize {
+// Writes the frame into an output of `room` octets, or of all where there are fewer.
+fn write_into(n: u8, p: Port, out: &mut [u8], room: usize) -> Written {
+    if room < out.len() {
+        return recorder::write(n, p, &mut out[..room]);
+    }
+    recorder::write(n, p, out)
+}
+
+// The frame that a request to write gives, or its refusal.
+fn write(out: &mut [u8], at: usize, n: u8, p: Port, room: usize) -> usize {
+    let mut space = [0; 1000];
+    let w = write_into(n, p, &mut space, room);
+    match w {
+        Written::Octets(k) => report::answers::frame(out, at, octets::first(&space, k)),
+        Written::Refused(r) => report::answers::refused(out, at, r),
+    }
+}
+
+// The state of a port, or the refusal of a number that names none.
+fn show(out: &mut [u8], at: usize, w: PortWord, p: Port, l: Log) -> usize {
+    let n = w.number;
+    if n < 1 {
+        return report::answers::refused(out, at, Refusal::NoPort);
+    }
+    if 4 < n {
+        return report::answers::refused(out, at, Refusal::NoPort);
+    }
+    let end = report::states::show(out, at, p, l, n);
+    report::ports::others(out, at, end, w.given, n)
+}
+
+// A line that leaves the recorder as it is.
+fn tell(out: &mut [u8], at: usize, w: PortWord, p: Port, l: Log, number: u64, k: Kind) -> usize {
     match k {
-        Kind::Write(room) => write(out, at, c, room),
-        Kind::Show => report::states::show(out, at, c.port, c.log),
+        Kind::Write(room) => write(out, at, w.number, p, room),
+        Kind::Show => show(out, at, w, p, l),
         _ => report::answers::unread(out, at, number),
     }
 }
 
-// The event on one line, which is the line with a number. A line that is passed over has no answer.
-pub fn event(out: &mut [u8], at: usize, c: Card, number: u64, line: &[u8]) -> Step {
-    if script::is_passed_over(line) {
-        return Step { card: c, at: at };
+// The event on one line, which is the line with a number: what it says behind its port, which is `p`. A line that is passed
+// over has no answer.
+pub fn event(
+    out: &mut [u8],
+    at: usize,
+    w: PortWord,
+    p: Port,
+    l: Log,
+    number: u64,
+    said: &[u8],
+) -> Step {
+    if !w.given & script::is_passed_over(said) {
+        return Step {
+            port: p,
+            log: l,
+            at: at,
+        };
     }
-    let l = script::parse_event(line);
-    let kind = l.kind;
+    let line = script::parse_event(said);
+    let kind = line.kind;
     match kind {
-        Kind::Take => take(out, at, c),
+        Kind::Take => take(out, at, w.number, p, l),
         Kind::Frame | Kind::Gone | Kind::Flag(_, _) | Kind::Setting { .. } => {
-            stepped(out, at, change(c, line, l))
+            changed(out, at, w, l, change(w.number, p, line))
         }
         _ => Step {
-            card: c,
-            at: tell(out, at, c, number, kind),
+            port: p,
+            log: l,
+            at: tell(out, at, w, p, l, number, kind),
         },
     }
 }

@@ -129,6 +129,22 @@ pub fn seek(buffer: &[u8], l: Lines) -> Lines {
     }
 }
 
+// The line that was found last is found once more.
+pub fn put_back(l: Lines) -> Lines {
+    if !l.found {
+        return l;
+    }
+    Lines {
+        number: std::num::wrapping_sub_u64(l.number, 1),
+        found: false,
+        from: l.from,
+        to: l.from,
+        next: l.from,
+        end: l.end,
+        open: l.open,
+    }
+}
+
 // Moves the `n` octets from `next` on to the front.
 fn shift(buffer: &mut [u8], next: usize, n: usize) {
     let mut i: usize = 0;

@@ -1,12 +1,16 @@
-// The settings of one end: four lines, which make a card.
+// The settings of ports, four lines each, which make a recorder.
 use crate::Lines;
-use card::Handled;
 use feature::Switches;
 use parameters::Feature;
+use port::Answer;
+use port::Event;
+use port::Port;
 use port::Versions;
+use recorder::Recorder;
 use script::Kind;
 use script::Line;
 use script::Part;
+use script::PortWord;
 
 // A setting, with the number of its line.
 pub struct Setting {
@@ -17,21 +21,42 @@ pub struct Setting {
     pub octets: [u8; 513],
 }
 
-// The settings of an end. Where `good` is false the line that was due cannot be read, or the input ended before it.
+// What a control line says: its port and the highest version; with the number of the line.
+pub struct Head {
+    pub number: u64,
+    pub port: u8,
+    pub max: u8,
+}
+
+// The settings of a port. Where `good` is false the line that was due cannot be read, or the input ended before it.
 pub struct Settings {
     pub good: bool,
     pub lines: Lines,
-    pub control: u8,
+    pub control: Head,
     pub groups: Setting,
     pub flow: Setting,
     pub applications: Setting,
 }
 
-// A line of the settings; where `good` is false it cannot be read, or is missing.
+// A line of the settings, and its port; where `good` is false it cannot be read, or is missing.
 struct Read {
     good: bool,
     lines: Lines,
+    port: u8,
     setting: Setting,
+}
+
+// What is wrong with the settings: the line that cannot be read, with refusal 0, or that is refused; line 0 where nothing is.
+pub struct Wrong {
+    pub line: u64,
+    pub refusal: u8,
+}
+
+// The recorder that the settings make, if nothing is wrong with them; behind them the events begin.
+pub struct Start {
+    pub recorder: Recorder,
+    pub lines: Lines,
+    pub wrong: Wrong,
 }
 
 fn switches(advertise: bool, enable: bool, willing: bool) -> Switches {
@@ -75,27 +100,52 @@ fn is_read(k: Kind) -> bool {
     }
 }
 
+// The port of a line, where lines may begin with one.
+fn port_of(line: &[u8], ports: bool) -> PortWord {
+    if ports {
+        return script::port_of(line);
+    }
+    PortWord {
+        given: false,
+        number: 1,
+    }
+}
+
 // The next line, read as the one that is due.
-fn read_setting(buffer: &mut [u8], l: Lines, due: Part) -> Read {
+fn read_setting(buffer: &mut [u8], l: Lines, due: Part, ports: bool) -> Read {
     let lines = crate::next_line(buffer, l);
-    let line = script::parse_setting(due, crate::line(buffer, lines));
-    let kind = line.kind;
+    let line = crate::line(buffer, lines);
+    let w = port_of(line, ports);
+    let said = script::parse_setting(due, script::behind_port(line, w.given));
+    let kind = said.kind;
     Read {
         good: lines.found & is_read(kind),
         lines: lines,
-        setting: setting_on(lines.number, line),
+        port: w.number,
+        setting: setting_on(lines.number, said),
     }
 }
 
-// The line behind one that was read.
-fn read_behind(buffer: &mut [u8], r: Read, due: Part) -> Read {
+// The line behind one that was read, which has to name the same port.
+fn read_behind(buffer: &mut [u8], r: Read, due: Part, ports: bool) -> Read {
     if !r.good {
         return r;
     }
-    read_setting(buffer, r.lines, due)
+    let mut next = read_setting(buffer, r.lines, due, ports);
+    next.good = next.good & (next.port == r.port);
+    next
 }
 
-fn settings_of(max: u8, groups: Read, flow: Read, applications: Read) -> Settings {
+fn head_of(r: Read) -> Head {
+    let s = r.setting;
+    Head {
+        number: s.number,
+        port: r.port,
+        max: s.max,
+    }
+}
+
+fn settings_of(control: Head, groups: Read, flow: Read, applications: Read) -> Settings {
     let g = groups.setting;
     let w = flow.setting;
     let a = applications.setting;
@@ -103,7 +153,7 @@ fn settings_of(max: u8, groups: Read, flow: Read, applications: Read) -> Setting
     Settings {
         good: applications.good,
         lines: lines,
-        control: max,
+        control: control,
         groups: g,
         flow: w,
         applications: a,
@@ -111,18 +161,18 @@ fn settings_of(max: u8, groups: Read, flow: Read, applications: Read) -> Setting
 }
 
 // The last two of the four lines.
-fn read_rest(buffer: &mut [u8], max: u8, groups: Read) -> Settings {
-    let flow = read_behind(buffer, groups, Part::Flow);
-    let applications = read_behind(buffer, flow, Part::Applications);
-    settings_of(max, groups, flow, applications)
+fn read_rest(buffer: &mut [u8], control: Head, groups: Read, ports: bool) -> Settings {
+    let flow = read_behind(buffer, groups, Part::Flow, ports);
+    let applications = read_behind(buffer, flow, Part::Applications, ports);
+    settings_of(control, groups, flow, applications)
 }
 
-// Reads the four lines of an end, up to one that cannot be read.
-pub fn read_end(buffer: &mut [u8], l: Lines) -> Settings {
-    let control = read_setting(buffer, l, Part::Control);
-    let c = control.setting;
-    let groups = read_behind(buffer, control, Part::Groups);
-    read_rest(buffer, c.max, groups)
+// Reads the four lines of a port, up to one that cannot be read. Lines may begin with their port only where `ports` says so.
+pub fn read_port(buffer: &mut [u8], l: Lines, ports: bool) -> Settings {
+    let control = read_setting(buffer, l, Part::Control, ports);
+    let head = head_of(control);
+    let groups = read_behind(buffer, control, Part::Groups, ports);
+    read_rest(buffer, head, groups, ports)
 }
 
 // The number of the line that cannot be read; of a line that is missing, one more than there are.
@@ -155,18 +205,21 @@ pub fn invalid_line(s: Settings) -> u64 {
     0
 }
 
-// The card of an end.
-pub fn create(s: Settings) -> Handled {
+// Creates the port of the settings in the place of `p`.
+pub fn create(p: Port, s: Settings) -> Event {
+    let c = s.control;
     let g = s.groups;
     let w = s.flow;
     let a = s.applications;
     let versions = Versions {
-        control: s.control,
+        control: c.max,
         groups: g.max,
         flow: w.max,
         applications: a.max,
     };
-    card::create(
+    recorder::create(
+        c.port,
+        p,
         versions,
         g.switches,
         octets::first(&g.octets, g.n),
@@ -175,4 +228,105 @@ pub fn create(s: Settings) -> Handled {
         a.switches,
         octets::first(&a.octets, a.n),
     )
+}
+
+// The number of the line that is not the one due, and 0 where all four are: the first one where the port's settings come `again`.
+fn undue_line(s: Settings, again: bool) -> u64 {
+    let c = s.control;
+    if again {
+        return c.number;
+    }
+    if s.good {
+        return 0;
+    }
+    unread_line(s.lines)
+}
+
+// The number of a refusal, and 0 for none.
+fn refusal_of(a: Answer) -> u8 {
+    match a {
+        Answer::Done(_) => 0,
+        Answer::Refused(why) => tlv::refusal_number(why),
+    }
+}
+
+// The line of a port's settings that is refused: its first where no port has its number.
+fn refused_line(s: Settings, refusal: u8) -> u64 {
+    let c = s.control;
+    if refusal == 16 {
+        return c.number;
+    }
+    invalid_line(s)
+}
+
+// What is wrong after a port's creation was answered; what was wrong before stays.
+fn wrong_behind(w: Wrong, s: Settings, a: Answer) -> Wrong {
+    let refusal = refusal_of(a);
+    if refusal == 0 {
+        return w;
+    }
+    if w.line != 0 {
+        return w;
+    }
+    Wrong {
+        line: refused_line(s, refusal),
+        refusal: refusal,
+    }
+}
+
+// The line that begins the settings of another port, or the first event: it is looked at, and stays the next.
+struct Ahead {
+    more: bool,
+    lines: Lines,
+}
+
+fn look_ahead(buffer: &mut [u8], l: Lines) -> Ahead {
+    let lines = crate::next_line(buffer, l);
+    let more = script::begins_settings(crate::line(buffer, lines));
+    Ahead {
+        more: lines.found & more,
+        lines: crate::put_back(lines),
+    }
+}
+
+// Reads the settings of ports and creates them. A port comes once, so 257 turns are enough.
+pub fn read_recorder(buffer: &mut [u8], l: Lines) -> Start {
+    let mut made = recorder::blank();
+    let mut seen = [false; 256];
+    let mut wrong = Wrong {
+        line: 0,
+        refusal: 0,
+    };
+    let mut lines = l;
+    let mut turns: usize = 257;
+    while 0 < turns {
+        turns -= 1;
+        let s = read_port(buffer, lines, true);
+        let c = s.control;
+        let n = octets::wide(c.port);
+        let undue = undue_line(s, seen[n]);
+        if undue != 0 {
+            wrong = Wrong {
+                line: undue,
+                refusal: 0,
+            };
+            break;
+        }
+        seen[n] = true;
+        let i = recorder::place_of(c.port);
+        let e = create(made.ports[i], s);
+        let answer = e.answer;
+        made = recorder::store(made, c.port, e);
+        wrong = wrong_behind(wrong, s, answer);
+        let ahead = look_ahead(buffer, s.lines);
+        lines = ahead.lines;
+        if !ahead.more {
+            break;
+        }
+    }
+    Start {
+        recorder: made,
+        lines: lines,
+        wrong: wrong,
+    }
 }

@@ -1,7 +1,7 @@
-// The desk: the settings of one end, then events, one a line, each answered before the next is read (docs/FORMATS.md).
-use card::Card;
+// The desk: the settings of one to four ports, then events, one a line, each answered before the next is read (docs/FORMATS.md).
 use console::Lines;
-use console::settings::Settings;
+use console::settings::Wrong;
+use recorder::Recorder;
 
 // What an answer may take of the output; the longest, of `show`, is shorter.
 const ROOM: usize = 16384;
@@ -45,10 +45,11 @@ fn next(input: &mut [u8], output: &[u8], l: Lines, at: usize) -> Place {
     }
 }
 
-// The events, to the end of the input. A frame, as most lines are, goes its own way, so that its card is not copied into the
-// step of an event and out of it. A proved loop ends: it counts its turns down, from a number that no run uses up.
-fn run(input: &mut [u8], output: &mut [u8], start: Card, first: Lines) {
-    let mut card = start;
+// The events, to the end of the input. The recorder stays where it is: of an event only the port at hand moves, and the log.
+// A frame, as most lines are, goes its own way, on which the log moves only where a notice was raised. A proved loop ends: it
+// counts its turns down, from a number that no run uses up.
+fn run(input: &mut [u8], output: &mut [u8], start: Recorder, first: Lines) {
+    let mut held = start;
     let mut lines = first;
     let mut at = 0;
     let mut turns = u64::MAX;
@@ -60,41 +61,57 @@ fn run(input: &mut [u8], output: &mut [u8], start: Card, first: Lines) {
             return;
         }
         let line = console::line(input, lines);
-        if script::is_frame(line) {
-            let h = console::events::handle(card, line);
-            let answer = h.answer;
-            let raised = h.raised;
-            card = h.card;
-            at = console::events::answered(output, p.at, answer, raised);
+        let w = script::port_of(line);
+        let said = script::behind_port(line, w.given);
+        let from = report::ports::first(output, p.at, w.given, w.number);
+        let i = recorder::place_of(w.number);
+        if script::is_frame(said) {
+            let e = console::events::handle(w.number, held.ports[i], said);
+            let port = e.port;
+            held.ports[i] = port;
+            if !recorder::is_silent(e.notices) {
+                let log = recorder::keep(held.log, w.number, e.notices);
+                held.log = log;
+            }
+            at = console::events::answered(output, from, w, e);
             continue;
         }
-        let step = console::events::event(output, p.at, card, lines.number, line);
-        card = step.card;
-        at = step.at;
+        let s = console::events::event(
+            output,
+            from,
+            w,
+            held.ports[i],
+            held.log,
+            lines.number,
+            said,
+        );
+        let port = s.port;
+        let log = s.log;
+        held.ports[i] = port;
+        held.log = log;
+        at = s.at;
     }
 }
 
 // Puts what is wrong with the settings, if anything is, and gives the place behind it.
-fn complain(output: &mut [u8], s: Settings) -> usize {
-    if !s.good {
-        return report::answers::unread_setting(output, 0, console::settings::unread_line(s.lines));
+fn complain(output: &mut [u8], w: Wrong) -> usize {
+    if w.line == 0 {
+        return 0;
     }
-    let bad = console::settings::invalid_line(s);
-    if bad != 0 {
-        return report::answers::refused_setting(output, 0, bad);
+    if w.refusal == 0 {
+        return report::answers::unread_setting(output, 0, w.line);
     }
-    0
+    report::answers::refused_setting(output, 0, w.line, w.refusal)
 }
 
 fn main() {
     let mut input = io::large_buffer();
     let mut output = io::large_buffer();
-    let s = console::settings::read_end(&mut input, console::start());
-    let wrong = complain(&mut output, s);
+    let s = console::settings::read_recorder(&mut input, console::start());
+    let wrong = complain(&mut output, s.wrong);
     if wrong != 0 {
         flush(&output, wrong);
         return;
     }
-    let made = console::settings::create(s);
-    run(&mut input, &mut output, made.card, s.lines);
+    run(&mut input, &mut output, s.recorder, s.lines);
 }

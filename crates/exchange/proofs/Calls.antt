@@ -1,4 +1,4 @@
--- What each call at a card does: refused ones change nothing, a write leaves the port's frame on its way, and a frame that a sound
+-- What each call at a port does: refused ones change nothing, a write leaves the port's frame on its way, and a frame that a sound
 -- port wrote is handled as its message. Assumes nothing.
 use Prim.Native.Nat.{ℕ}
 use mathlib.Core.Path.{_≡_, refl, ap, _∙_}
@@ -12,20 +12,15 @@ use Rattle.tlv.specs.declared.Refusal.the-variants as refusal
 use Rattle.tlv.specs.declared.Reading.{Reading}
 use Rattle.tlv.specs.declared.Reading.the-variants.{Refused, Accepted}
 use Rattle.tlv.specs.Layout.{readFrame}
-use Rattle.notices.specs.declared.Log.{Log}
-use Rattle.notices.specs.Notices.{loggedAll}
 use Rattle.port.specs.declared.Port.{Port}
 use Rattle.port.specs.declared.Event.{Event}
 use Rattle.port.specs.declared.Written.the-variants as wrote
 use Rattle.port.specs.declared.Answer.the-variants as answer
 use Rattle.port.specs.Parts.{running}
 use Rattle.port.specs.Writing.{frame, written, output}
-use Rattle.port.specs.PortEvents.{refused, listed, inOrder, completed}
-use Rattle.handling.specs.Handling.{message, once, steps1to4, frameEvent, accepted, given}
-use Rattle.handling.specs.Handling as handling
+use Rattle.port.specs.PortEvents.{refused, completed}
+use Rattle.handling.specs.Handling.{message, twice, once, steps1to4, frameEvent, accepted, given, handled}
 use Rattle.port.specs.Sound.{SoundPort}
-use Rattle.card.specs.declared.Card.{Card}
-use Rattle.card.specs.Card.{kept, handled}
 use Rattle.exchange.proofs.Core as core
 use Rattle.exchange.proofs.View.{settings, view}
 use Rattle.exchange.proofs.Frames as frames
@@ -46,34 +41,33 @@ write-leaves p out n e = write-by p out n (running p) (length out below length (
 
 -- ---- refused frames
 
-refused-by : (l : Log) (p : Port) (o : List ℕ) (why : Refusal) (a b : Bool) (x : Reading) →
+refused-by : (p : Port) (o : List ℕ) (why : Refusal) (a b : Bool) (x : Reading) →
     (if not a then refused refusal.NotRunning p else if b then refused refusal.SeveralNeighbours p else given o x p) .answer ≡ answer.Refused why →
-    kept l (if not a then refused refusal.NotRunning p else if b then refused refusal.SeveralNeighbours p else given o x p) .card
-    ≡ record { port = p; log = l }
-unfolding given accepted frameEvent loggedAll inOrder listed
-refused-by l p o why false b x e = refl
-refused-by l p o why true true x e = refl
-refused-by l p o why true false (Refused y) e = refl
-refused-by l p o why true false (Accepted c) e = cc
+    (if not a then refused refusal.NotRunning p else if b then refused refusal.SeveralNeighbours p else given o x p) .port ≡ p
+unfolding given accepted frameEvent
+refused-by p o why false b x e = refl
+refused-by p o why true true x e = refl
+refused-by p o why true false (Refused y) e = refl
+refused-by p o why true false (Accepted c) e = cc
 
-pub refused-stays : (c : Card) (o : List ℕ) (why : Refusal) → handled c o .answer ≡ answer.Refused why → handled c o .card ≡ c
-unfolding handled handling.handled
-refused-stays c o why e = refused-by (c .log) (c .port) o why (running (c .port)) (c .port .several) (readFrame o) e
+pub refused-stays : (p : Port) (o : List ℕ) (why : Refusal) → handled p o .answer ≡ answer.Refused why → handled p o .port ≡ p
+unfolding handled
+refused-stays p o why e = refused-by p o why (running p) (p .several) (readFrame o) e
 
 -- ---- frames that are delivered
 
 module _ (p q : Port) where
-  runs-given : (o : List ℕ) → running p ≡ true → p .several ≡ false → handling.handled p o ≡ given o (readFrame o) p
-  unfolding handling.handled
+  runs-given : (o : List ℕ) → running p ≡ true → p .several ≡ false → handled p o ≡ given o (readFrame o) p
+  unfolding handled
   runs-given o r n =
       ap (λ b. if not b then refused refusal.NotRunning p else if p .several then refused refusal.SeveralNeighbours p else given o (readFrame o) p) r
       ∙ ap (λ b. if b then refused refusal.SeveralNeighbours p else given o (readFrame o) p) n
 
   pub delivered-port : running p ≡ true → p .several ≡ false → SoundPort q →
-      handling.handled p (frame q) .port ≡ completed p (once (core.message (settings q) (view q)) p)
+      handled p (frame q) .port ≡ completed p (once (core.message (settings q) (view q)) p)
   unfolding given accepted frameEvent steps1to4
   delivered-port r n h =
       ap (λ (x : Event). x .port) (runs-given (frame q) r n)
       ∙ ap (λ x. given (frame q) x p .port) (frames.accepted q h)
-      ∙ ap (λ k. completed p (if 1 below k then handling.twice p else once (message (frame q) (frames.contents q h)) p)) (frames.one-control q h)
+      ∙ ap (λ k. completed p (if 1 below k then twice p else once (message (frame q) (frames.contents q h)) p)) (frames.one-control q h)
       ∙ ap (λ m. completed p (once m p)) (frames.message-read q h)

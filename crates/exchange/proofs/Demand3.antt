@@ -1,4 +1,4 @@
--- Demand 3, whole, of every two cards that have just started. Assumes nothing.
+-- Demand 3, whole, of every two ports that have just started. Assumes nothing.
 use Rattle.exchange.specs.Rounds.{Ends, rounds, lossyRounds}
 use Rattle.exchange.specs.Demand3.{Begun, Demand3}
 use Rattle.exchange.proofs.View.{settings}
@@ -14,27 +14,27 @@ use Rattle.exchange.proofs.Claims.{fit, agreed, settled-agreed, truthfu
 
 pub demand3 : (c : Ends) → Begun c → Demand3 c
 demand3 c h =
-    let s = settings (c .l .port) in
-    let t = settings (c .r .port) in
-    let fit-s = fit (c .l .port) (h .l .sound) in
-    let fit-t = fit (c .r .port) (h .r .sound) in
+    let s = settings (c .l) in
+    let t = settings (c .r) in
+    let fit-s = fit (c .l) (h .l .sound) in
+    let fit-t = fit (c .r) (h .r .sound) in
     record {
       settles = λ rs p n.
           let k = follows-all s t (rounds rs) c (begin s t) p (like-begun c h) in
           let z = after-five s t fit-s fit-t rs n in
           let i = run-idle s t (rounds rs) in (
-            agreed (c .l .port) (c .r .port) _ _ (k .view-l) (k .runs-l .set) (five-concluded s t _ _ _ _ (z .0)) (i .0),
-            agreed (c .r .port) (c .l .port) _ _ (k .view-r) (k .runs-r .set) (five-concluded t s _ _ _ _ (z .1)) (i .1),
+            agreed (c .l) (c .r) _ _ (k .view-l) (k .runs-l .set) (five-concluded s t _ _ _ _ (z .0)) (i .0),
+            agreed (c .r) (c .l) _ _ (k .view-r) (k .runs-r .set) (five-concluded t s _ _ _ _ (z .1)) (i .1),
           );
       truthful = λ rs p.
           let k = follows-all s t (lossyRounds rs) c (begin s t) p (like-begun c h) in
           let z = run-truthful s t fit-s fit-t (lossyRounds rs) in
-          (truthful (c .l .port) (c .r .port) _ _ (k .view-l) (z .at-l), truthful (c .r .port) (c .l .port) _ _ (k .view-r) (z .at-r));
+          (truthful (c .l) (c .r) _ _ (k .view-l) (z .at-l), truthful (c .r) (c .l) _ _ (k .view-r) (z .at-r));
       agrees = λ rs p.
           let k = follows-all s t (lossyRounds rs) c (begin s t) p (like-begun c h) in
           let z = run-concluded s t fit-s fit-t (lossyRounds rs) in
           let i = run-idle s t (lossyRounds rs) in (
-            settled-agreed (c .l .port) (c .r .port) _ _ (k .view-l) (k .runs-l .set) (z .0) (i .0),
-            settled-agreed (c .r .port) (c .l .port) _ _ (k .view-r) (k .runs-r .set) (z .1) (i .1),
+            settled-agreed (c .l) (c .r) _ _ (k .view-l) (k .runs-l .set) (z .0) (i .0),
+            settled-agreed (c .r) (c .l) _ _ (k .view-r) (k .runs-r .set) (z .1) (i .1),
           );
     }

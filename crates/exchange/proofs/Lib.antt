@@ -13,16 +13,18 @@ pub mod Idle
 pub mod Losses
 pub mod Acknowledged
 pub mod Fixed
--- ports, frames and cards
+-- ports and frames
 pub mod Steps
 pub mod View
 pub mod Frames
 pub mod Calls
 pub mod Simulation
 pub mod Started
+pub mod Restarts
 pub mod Claims
 -- the theorems
 pub mod Demand3
+pub mod Recorders
 pub mod Starting
 pub mod NotEmpty
 pub mod Tight

@@ -13,7 +13,6 @@ use Rattle.port.specs.declared.Written.the-variants as wrote
 use Rattle.port.specs.Writing.{frame, written}
 use Rattle.port.specs.Sound.{SoundPort}
 use Rattle.port.specs.WritingLaws.{frame-longest}
-use Rattle.card.specs.declared.Card.{Card}
 use Rattle.exchange.specs.Rounds.{left, right, other, writes, handles, Ends, Round, quiet, maybe, writeOf, handleOf, calls, rounds, exec, Accepts, Proper}
 use Rattle.exchange.specs.Demand3.{Begun}
 use Rattle.exchange.proofs.Core.{Settings}
@@ -52,14 +51,13 @@ write-by runs short p =
     else if short then wrote.Refused refusal.ShortOutput
     else wrote.Octets (length (frame p))
 
-accepts : (s : Settings) (c : Card) → Runs s (c .port) → Accepts c lent
+accepts : (s : Settings) (p : Port) → Runs s p → Accepts p lent
 unfolding written
-accepts s c h =
-    let p : Port = c .port in (
-      length (frame p),
-      ap (λ b. write-by b (length lent below length (frame p)) p) (h .runs)
-          ∙ ap (λ b. write-by true b p) (le-ltb (length lent) (length (frame p)) (long-enough p (h .sound))),
-    )
+accepts s p h = (
+  length (frame p),
+  ap (λ b. write-by b (length lent below length (frame p)) p) (h .runs)
+      ∙ ap (λ b. write-by true b p) (le-ltb (length lent) (length (frame p)) (long-enough p (h .sound))),
+)
 
 module _ (s t : Settings) where
   plain-proper : (n : ℕ) (c : Ends) (d : Pair) → Like s t c d → Proper (rounds (replicate n plainRound)) c
@@ -82,8 +80,8 @@ module _ (s t : Settings) where
 
 pub plain-rounds : (c : Ends) → Begun c → (n : ℕ) → Proper (rounds (replicate n plainRound)) c
 plain-rounds c h n =
-    let s = settings (c .l .port) in
-    let t = settings (c .r .port) in
+    let s = settings (c .l) in
+    let t = settings (c .r) in
     plain-proper s t n c (begin s t) (like-begun c h)
 
 pub not-empty : (c : Ends) → Begun c → (n : ℕ) → (rs : List Round) × (length rs ≡ n) × Proper (rounds rs) c

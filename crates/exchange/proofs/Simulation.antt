@@ -1,4 +1,4 @@
--- Two cards follow the exchange of messages, call by call. Assumes nothing.
+-- Two ports follow the exchange of messages, call by call. Assumes nothing.
 use Prim.Native.Nat.{ℕ}
 use mathlib.Core.Path.{_≡_, sym, ap, _∙_, subst}
 use mathlib.Core.Bool.{true, false}
@@ -11,8 +11,6 @@ use Rattle.port.specs.Writing as writing
 use Rattle.handling.specs.Handling.{Message, once}
 use Rattle.handling.specs.Handling as handling
 use Rattle.port.specs.Sound.{SoundPort}
-use Rattle.card.specs.declared.Card.{Card}
-use Rattle.card.specs.Card.{handled}
 use Rattle.exchange.specs.Rounds.{left, right, write, frame, Call, refused, writes, handles, Ends, afterWrite, onItsWay, delivered, exec, execAll, Accepts, RefusesWrite, Answers, Proper}
 use Rattle.exchange.proofs.Core.{Settings, Core, message, recv}
 use Rattle.exchange.proofs.View.{settings, view, Kept, runs-same, view-once, kept-once}
@@ -49,14 +47,13 @@ runs-next s t p q h k =
     }
 
 -- an end that is given what its peer wrote
-given-next : (own peer : Settings) (c : Card) (b : Core) (o : Option (List ℕ)) (m : Option Message) →
-    Runs own (c .port) → view (c .port) ≡ b → Link peer o m → Runs own (delivered c o .port) × (view (delivered c o .port) ≡ given own b m)
-unfolding delivered given handled
-given-next own peer c b none none h v k = (h, v)
-given-next own peer c b none (some m) h v k = absurd k
-given-next own peer c b (some o) none h v k = absurd k
-given-next own peer c b (some o) (some m) h v k =
-    let p : Port = c .port in
+given-next : (own peer : Settings) (p : Port) (b : Core) (o : Option (List ℕ)) (m : Option Message) →
+    Runs own p → view p ≡ b → Link peer o m → Runs own (delivered p o .port) × (view (delivered p o .port) ≡ given own b m)
+unfolding delivered given
+given-next own peer p b none none h v k = (h, v)
+given-next own peer p b none (some m) h v k = absurd k
+given-next own peer p b (some o) none h v k = absurd k
+given-next own peer p b (some o) (some m) h v k =
     let q : Port = k .0 in
     let g : message (settings q) (view q) ≡ m = ap (λ (x : Settings). message x (view q)) (k .1 .set) ∙ sym (k .3) in
     let e : handling.handled p o .port ≡ completed p (once (message (settings q) (view q)) p) =
@@ -66,23 +63,23 @@ given-next own peer c b (some o) (some m) h v k =
     )
 
 -- what a write leaves on its way
-write-link : (own : Settings) (c : Card) (b : Core) (out : List ℕ) (o : Option (List ℕ)) → Runs own (c .port) → view (c .port) ≡ b → Accepts c out →
-    Link own (onItsWay c out o) (some (message own b))
+write-link : (own : Settings) (p : Port) (b : Core) (out : List ℕ) (o : Option (List ℕ)) → Runs own p → view p ≡ b → Accepts p out →
+    Link own (onItsWay p out o) (some (message own b))
 unfolding afterWrite
-write-link own c b out o h v a = rw (a .1) (c .port, h, write-leaves (c .port) out (a .0) (a .1), ap (message own) (sym v))
+write-link own p b out o h v a = rw (a .1) (p, h, write-leaves p out (a .0) (a .1), ap (message own) (sym v))
 
-write-none : (c : Card) (out : List ℕ) (o : Option (List ℕ)) → RefusesWrite c out → onItsWay c out o ≡ o
+write-none : (p : Port) (out : List ℕ) (o : Option (List ℕ)) → RefusesWrite p out → onItsWay p out o ≡ o
 unfolding afterWrite
-write-none c out o a = rw (a .1)
+write-none p out o a = rw (a .1)
 
 -- ---- both ends
 
 module _ (s t : Settings) where
   pub record Like (c : Ends) (d : Pair) : Type 0 where
-    pub runs-l : Runs s (c .l .port)
-    pub runs-r : Runs t (c .r .port)
-    pub view-l : view (c .l .port) ≡ d .l
-    pub view-r : view (c .r .port) ≡ d .r
+    pub runs-l : Runs s (c .l)
+    pub runs-r : Runs t (c .r)
+    pub view-l : view (c .l) ≡ d .l
+    pub view-r : view (c .r) ≡ d .r
     pub link-l : Link s (c .from-l) (d .from-l)
     pub link-r : Link t (c .from-r) (d .from-r)
 

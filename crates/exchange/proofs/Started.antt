@@ -10,7 +10,6 @@ use Rattle.feature.specs.State.{freshAt, fresh, stopped}
 use Rattle.port.specs.declared.Port.{Port}
 use Rattle.port.specs.Parts.{featureOf, withFeatures, running}
 use Rattle.port.specs.PortEvents.{freshParts, freshPort, sent}
-use Rattle.card.specs.declared.Card.{Card}
 use Rattle.exchange.specs.Rounds.{sideOf, Ends}
 use Rattle.exchange.specs.Demand3.{JustStarted, Begun}
 use Rattle.exchange.proofs.Core as core
@@ -57,13 +56,13 @@ module _ (p : Port) where
         feat = λ f. fresh-machine f i;
       })
 
-pub view-started : (c : Card) → JustStarted c → view (c .port) ≡ started (settings (c .port))
-view-started c h = ap view (sym (h .fresh) ∙ fresh-runs (c .port) (h .runs)) ∙ view-fresh (c .port)
+pub view-started : (p : Port) → JustStarted p → view p ≡ started (settings p)
+view-started p h = ap view (sym (h .fresh) ∙ fresh-runs p (h .runs)) ∙ view-fresh p
 
-pub runs-started : (c : Card) → JustStarted c → Runs (settings (c .port)) (c .port)
-runs-started c h = record { sound = h .sound; runs = h .runs; single = h .single; set = refl }
+pub runs-started : (p : Port) → JustStarted p → Runs (settings p) p
+runs-started p h = record { sound = h .sound; runs = h .runs; single = h .single; set = refl }
 
-pub like-begun : (c : Ends) → Begun c → Like (settings (c .l .port)) (settings (c .r .port)) c (begin (settings (c .l .port)) (settings (c .r .port)))
+pub like-begun : (c : Ends) → Begun c → Like (settings (c .l)) (settings (c .r)) c (begin (settings (c .l)) (settings (c .r)))
 unfolding begin
 like-begun c h =
     record {

@@ -1,162 +1,81 @@
--- Which cards have just started: those that are created, and those that go to the fresh state, running and with one neighbour.
--- Assumes nothing.
+-- Which ports of a recorder have just started: what the operations leave is what the events of a port alone do. Assumes nothing.
 use Prim.Native.Nat.{ℕ}
 use native.Mathlib.Omega.{arith}
-use mathlib.Core.Path.{_≡_, refl, sym, ap, _∙_}
-use mathlib.Core.Bool.{Bool, true, false, not, _&&_, Bool·beq, false≢true}
-use Rattle.octets.specs.Words.{if_then_else_, _is_}
-use Rattle.tlv.specs.declared.Refusal.the-variants.{NotRunning, InvalidSetting}
+use mathlib.Core.Path.{_≡_, refl, _∙_}
+use mathlib.Core.Bool.{Bool, true, false}
+use mathlib.Core.List.{List}
+use lib.ListN.{length}
+use Rattle.octets.specs.Words.{if_then_else_}
+use Rattle.tlv.specs.declared.Refusal.the-variants.{InvalidSetting, NoPort}
 use Rattle.tlv.specs.Refusals.{refusalNumber}
-use Rattle.feature.specs.State.{next, stopped}
-use Rattle.notices.specs.Notices.{emptyLog}
+use Rattle.parameters.specs.declared.Feature.{Feature}
+use Rattle.feature.specs.declared.Switches.{Switches}
+use Rattle.notices.specs.Notices.{PortNumber, isPort}
+use Rattle.notices.specs.PortLaws.{port-is}
 use Rattle.port.specs.declared.Flag.{Flag}
-use Rattle.port.specs.declared.Flag.the-variants.{Admin, Receive, Transmit, Several}
-use Rattle.port.specs.declared.Port.{Port}
-use Rattle.port.specs.declared.Raised.{Raised}
-use Rattle.port.specs.declared.Answer.the-variants.{Done}
-use Rattle.port.specs.Parts.{featureOf, withControl, withFeatures, some, flagOf, withFlag, running}
-use Rattle.port.specs.PortEvents.{withSeq, unsynced, sent, freshParts, freshPort, refused, unchanged, event, made, createdPort, blankPort, settingsValid, restarts, flagNotice, flagSet}
+use Rattle.port.specs.declared.Flag.the-variants.{Several}
+use Rattle.port.specs.declared.Versions.{Versions}
+use Rattle.port.specs.PortEvents.{refused, made, createdPort, settingsValid, flagged, peerGone}
 use Rattle.port.specs.PortEvents as events
-use Rattle.handling.proofs.Tests.{beq-not}
-use Rattle.handling.proofs.Fresh.{Alike, fresh-alike, runs-alike, fresh-kept, fresh-again}
-use Rattle.handling.proofs.Standing.{created-runs, created-single, created-fresh, created-stands}
-use Rattle.card.specs.declared.Card.{Card}
-use Rattle.card.specs.Card.{kept, created, peerGone, flagged}
 use Rattle.port.specs.Replies.{eventReply}
-use Rattle.card.specs.Calls.{flag, after}
-use Rattle.card.specs.Sound.{SoundCard}
-use Rattle.card.specs.Reachable.{Creation, cardOf}
-use Rattle.card.proofs.Reachable.{call-sound, reachable-sound}
+use Rattle.handling.proofs.Standing.{Standing}
+use Rattle.recorder.specs.declared.Recorder.{Recorder}
+use Rattle.recorder.specs.Recorder.{portAt, happens, changed, created}
+use Rattle.recorder.specs.Calls.{create, gone, flag, eventOf, afterAt, replyAt}
+use Rattle.recorder.specs.Sound.{InRange, SoundRecorder}
+use Rattle.recorder.proofs.Independent.{four-after, own-after}
+use Rattle.recorder.proofs.Reachable.{reachable-sound}
 use Rattle.exchange.specs.Demand3.{JustStarted}
 use Rattle.exchange.specs.Starting.{Restarts, Starting}
+use Rattle.exchange.proofs.Restarts.{gone-starts, flag-starts, several-starts, created-starts}
 
--- ---- ports
+-- ---- what an operation leaves of its port
 
-module _ (p : Port) where
-  gone-fresh : (wish : Bool) → events.peerGone p .answer ≡ Done wish → (running p ≡ true) × (events.peerGone p .port ≡ freshPort p)
-  unfolding events.peerGone
-  gone-fresh wish = by (running p) _
+module _ (n : ℕ) (p : PortNumber n) (r : Recorder) (four : length (r .ports) ≡ 4) where
+  gone-leaves : portAt (afterAt r n gone) n ≡ peerGone (portAt r n) .port
+  unfolding eventOf changed happens
+  gone-leaves = own-after r four n gone ∙ rw (port-is n p) refl
+
+  gone-answers : replyAt r n gone ≡ eventReply (peerGone (portAt r n) .answer)
+  unfolding replyAt eventOf changed happens
+  gone-answers = rw (port-is n p) refl
+
+  flag-leaves : (x : Flag) (on : Bool) → portAt (afterAt r n (flag x on)) n ≡ flagged x on (portAt r n) .port
+  unfolding eventOf changed happens
+  flag-leaves x on = own-after r four n (flag x on) ∙ rw (port-is n p) refl
+
+-- ---- the theorem
+
+module _ (r : Recorder) (h : SoundRecorder r) (n : ℕ) where
+  stands : Standing (portAt r n)
+  stands = record { sound = h .ports n; stopped = h .stopped n }
+
+  restarts-by : PortNumber n → portAt r n .several ≡ false → Restarts r n
+  restarts-by p single =
+      record {
+        gone = λ e. rw (gone-leaves n p r (h .four)) (gone-starts (portAt r n) stands single (rw (gone-answers n p r (h .four)) at e));
+        flag = λ x on stopped e. rw (flag-leaves n p r (h .four) x on) (flag-starts (portAt r n) stands single x on stopped (rw (flag-leaves n p r (h .four) x on) at e));
+        several = λ e.
+            rw (flag-leaves n p (afterAt r n (flag Several true)) (four-after r n (flag Several true) ∙ h .four) Several false, flag-leaves n p r (h .four) Several true)
+            (several-starts (portAt r n) stands single e);
+        fresh = λ e f. record { sound = h .ports n; runs = e; single = single; fresh = f };
+      }
+
+  created-by : (v : Versions) (w : Feature → Switches) (o : Feature → List ℕ) → InRange (create v w o) → replyAt r n (create v w o) .number ≡ 0
+      → JustStarted (portAt (afterAt r n (create v w o)) n)
+  unfolding replyAt eventOf created events.created refusalNumber
+  created-by v w o k e = rw (own-after r (h .four) n (create v w o)) (by (isPort n) (settingsValid o) refl e)
     where
-      by : (b : Bool) (x : Raised) → (if not b then refused NotRunning p else event x p (freshPort p)) .answer ≡ Done wish
-          → (b ≡ true) × ((if not b then refused NotRunning p else event x p (freshPort p)) .port ≡ freshPort p)
-      by true x e = (refl, refl)
-      by false x e = let z : _≡_ {A = ℕ} 0 1 = cc in absurd (omega arith)
-
-  -- a flag with which the port comes to run is none of the neighbours', and it restarts the port
-  module _ (on : Bool) (r : running p ≡ false) where
-    keeps-several : (x : Flag) → running (withFlag p x on) ≡ true → withFlag p x on .several ≡ p .several
-    keeps-several Admin n = refl
-    keeps-several Receive n = refl
-    keeps-several Transmit n = refl
-    keeps-several Several n = absurd (false≢true (sym r ∙ n))
-
-    stays-stopped : (x : Flag) → restarts x on p (withFlag p x on) ≡ false → running p ≡ running (withFlag p x on)
-    unfolding restarts
-    stays-stopped Admin e = beq-not (running p) (running (withFlag p Admin on)) e
-    stays-stopped Receive e = beq-not (running p) (running (withFlag p Receive on)) e
-    stays-stopped Transmit e = beq-not (running p) (running (withFlag p Transmit on)) e
-    stays-stopped Several e = refl
-
-    flag-fresh : (x : Flag) → running (events.flagged x on p .port) ≡ true →
-        (freshPort (events.flagged x on p .port) ≡ events.flagged x on p .port) × (events.flagged x on p .port .several ≡ p .several)
-    unfolding events.flagged flagSet
-    flag-fresh x = by (Bool·beq (flagOf p x) on) (restarts x on p (withFlag p x on)) refl
-      where
-        -- over its tests: is the flag so already, does it restart the port
-        set : Bool → Bool → Port
-        set a b = (if a then unchanged p else event (flagNotice x on) p (if b then freshPort (withFlag p x on) else withFlag p x on)) .port
-
-        by : (a b : Bool) → restarts x on p (withFlag p x on) ≡ b → running (set a b) ≡ true → (freshPort (set a b) ≡ set a b) × (set a b .several ≡ p .several)
-        by true b e n = absurd (false≢true (sym r ∙ n))
-        by false false e n = absurd (false≢true (sym r ∙ stays-stopped x e ∙ n))
-        by false true e n =
-            let q : Port = withFlag p x on in
-            (fresh-again q, fresh-alike q .several ∙ keeps-several x (sym (runs-alike q (freshPort q) (fresh-alike q)) ∙ n))
-
-  set-several : p .several ≡ false → events.flagged Several true p .port ≡ freshPort (withFlag p Several true)
-  unfolding events.flagged flagSet restarts
-  set-several e = rw e
-
-  clear-several : p .several ≡ true → events.flagged Several false p .port ≡ withFlag p Several false
-  unfolding events.flagged flagSet restarts
-  clear-several e = rw e
-
-  -- the fresh state takes the flag as it is
-  fresh-several : (on : Bool) → freshPort (withFlag p Several on) ≡ withFlag (freshPort p) Several on
-  unfolding freshPort sent
-  fresh-several on =
-      by (running p) (some (λ f. unsynced (featureOf (freshParts p) f)) && 0 is 0)
-    where
-      state : Port → Bool → Bool → Port
-      state q a b =
-          if a then if b then withControl q (withSeq (q .control) (next (q .control .seq))) else q
-          else withFeatures q (λ f. stopped (featureOf q f))
-
-      by : (a b : Bool) → state (freshParts (withFlag p Several on)) a b ≡ withFlag (state (freshParts p) a b) Several on
-      by true true = refl
-      by true false = refl
-      by false b = refl
-
--- the neighbours' flag on, and off again
-both-several : (p : Port) → p .several ≡ false → events.flagged Several false (events.flagged Several true p .port) .port ≡ freshPort p
-both-several p e =
-    let q : Port = withFlag p Several true in
-    ap (λ (x : Port). events.flagged Several false x .port) (set-several p e)
-    ∙ clear-several (freshPort q) (fresh-alike q .several)
-    ∙ sym (fresh-several q false)
-    ∙ (λ i. freshPort (withFlag p Several (sym e i)))
-
--- ---- cards
-
--- a sound card that goes to the fresh state while it runs
-restarted : (c d : Card) → SoundCard c → running (c .port) ≡ true → c .port .several ≡ false → d .port ≡ freshPort (c .port) → JustStarted d
-restarted c d h r n e =
-    let p : Port = c .port in
-    let k : Alike p (freshPort p) = fresh-alike p in
-    record {
-      sound = rw e (fresh-kept p (h .port));
-      runs = ap running e ∙ runs-alike p (freshPort p) k ∙ r;
-      single = ap (λ (x : Port). x .several) e ∙ k .several ∙ n;
-      fresh = ap freshPort e ∙ fresh-again p ∙ sym e;
-    }
-
-module _ (c : Card) (h : SoundCard c) (n : c .port .several ≡ false) where
-  gone-starts : (wish : Bool) → peerGone c .answer ≡ Done wish → JustStarted (peerGone c .card)
-  unfolding peerGone
-  gone-starts wish e = let k = gone-fresh (c .port) wish e in restarted c (peerGone c .card) h (k .0) n (k .1)
-
-  flag-starts : (x : Flag) (on : Bool) → running (c .port) ≡ false → running (flagged x on c .card .port) ≡ true → JustStarted (flagged x on c .card)
-  unfolding flagged after
-  flag-starts x on r e =
-      let k = flag-fresh (c .port) on r x e in
-      record { sound = call-sound c h (flag x on) tt .port; runs = e; single = k .1 ∙ n; fresh = k .0 }
-
-  several-starts : running (c .port) ≡ true → JustStarted (flagged Several false (flagged Several true c .card) .card)
-  unfolding flagged
-  several-starts r = restarted c (flagged Several false (flagged Several true c .card) .card) h r n (both-several (c .port) n)
-
-  restarts-by : Restarts c
-  restarts-by =
-      record { gone = gone-starts; flag = flag-starts; several = several-starts; fresh = λ r f. record { sound = h .port; runs = r; single = n; fresh = f } }
-
--- a card whose creation is not refused
-pub created-started : (x : Creation) → JustStarted (cardOf x)
-unfolding created events.created refusalNumber
-created-started x = by (settingsValid (x .parameters)) refl (x .done)
-  where
-    port : Port
-    port = createdPort (x .versions) (x .switches) (x .parameters)
-
-    by : (b : Bool) → settingsValid (x .parameters) ≡ b → eventReply ((if b then made port else refused InvalidSetting blankPort) .answer) .number ≡ 0
-        → JustStarted (kept emptyLog (if b then made port else refused InvalidSetting blankPort) .card)
-    by true k e =
-        record {
-          sound = created-stands (x .versions) (x .switches) (x .parameters) (x .control) (x .features) k .sound;
-          runs = created-runs (x .versions) (x .switches) (x .parameters);
-          single = created-single (x .versions) (x .switches) (x .parameters);
-          fresh = created-fresh (x .versions) (x .switches) (x .parameters);
-        }
-    by false k e = absurd (omega arith)
+      by : (a b : Bool) → settingsValid o ≡ b
+          → eventReply ((if a then if b then made (portAt r n) (createdPort v w o) else refused InvalidSetting (portAt r n) else refused NoPort (portAt r n)) .answer) .number ≡ 0
+          → JustStarted ((if a then if b then made (portAt r n) (createdPort v w o) else refused InvalidSetting (portAt r n) else refused NoPort (portAt r n)) .port)
+      by true true good e = created-starts v w o (k .0) (k .1) good
+      by true false good e = absurd (omega arith)
+      by false b good e = absurd (omega arith)
 
 pub starting : Starting
-starting = record { created = created-started; again = λ c r n. restarts-by c (reachable-sound c r) n }
+starting =
+    record {
+      created = λ r h n. created-by r (reachable-sound r h) n;
+      again = λ r h n. restarts-by r (reachable-sound r h) n;
+    }

@@ -51,16 +51,16 @@ same-port s p q h k e =
         record { max = a .of f .max; setting = a .of f .setting; outcome = e .feat f .outcome; syncd = e .feat f .syncd; sequence = e .feat f .sequence }
 
 pub steady : (c : Ends) → Begun c → (rs : List Round) (r : Round) → 5 ≤ length rs → Proper (rounds rs) c → Proper (calls lossless r) (execAll (rounds rs) c) →
-    (execAll (calls lossless r) (execAll (rounds rs) c) .l .port ≡ execAll (rounds rs) c .l .port)
-    × (execAll (calls lossless r) (execAll (rounds rs) c) .r .port ≡ execAll (rounds rs) c .r .port)
+    (execAll (calls lossless r) (execAll (rounds rs) c) .l ≡ execAll (rounds rs) c .l)
+    × (execAll (calls lossless r) (execAll (rounds rs) c) .r ≡ execAll (rounds rs) c .r)
 steady c h rs r n p o =
-    let s = settings (c .l .port) in
-    let t = settings (c .r .port) in
+    let s = settings (c .l) in
+    let t = settings (c .r) in
     let d : Pair = run s t (rounds rs) (begin s t) in
     let k = follows-all s t (rounds rs) c (begin s t) p (like-begun c h) in
     let j = follows-all s t (calls lossless r) (execAll (rounds rs) c) d o k in
-    let fit-s = fit (c .l .port) (h .l .sound) in
-    let fit-t = fit (c .r .port) (h .r .sound) in
+    let fit-s = fit (c .l) (h .l .sound) in
+    let fit-t = fit (c .r) (h .r .sound) in
     let z = after-five s t fit-s fit-t rs n in
     let i = run-idle s t (rounds rs) in (
       same-port s _ _ (j .runs-l) (k .runs-l)

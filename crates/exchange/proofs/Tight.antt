@@ -15,19 +15,17 @@ use Rattle.parameters.specs.Parameters as parameters
 use Rattle.feature.specs.declared.Switches.{Switches}
 use Rattle.feature.specs.Outcome as rules
 use Rattle.feature.specs.State as state
-use Rattle.notices.specs.Notices as notices
+use Rattle.port.specs.declared.Port.{Port}
 use Rattle.port.specs.declared.Versions.{Versions}
 use Rattle.port.specs.Parts.{maxOf}
 use Rattle.port.specs.Writing as writing
 use Rattle.port.specs.PortEvents as events
 use Rattle.handling.specs.Handling as handling
-use Rattle.card.specs.declared.Card.{Card}
-use Rattle.card.specs.Card as card
 use Rattle.exchange.specs.Rounds as ends
 use Rattle.exchange.specs.Rounds.{Ends, Round, rounds, execAll, Proper}
 use Rattle.exchange.specs.Demand3.{Begun}
 use Rattle.exchange.proofs.NotEmpty.{lent, plainRound, plain-rounds}
-use Rattle.exchange.proofs.Starting.{created-started}
+use Rattle.exchange.proofs.Restarts.{created-starts}
 
 -- W7: "W6 with control Max 0 and 1, flow control Max 1 and 0 in that order", masks 08 and 10
 unfoldable versions : ℕ → ℕ → Versions
@@ -41,8 +39,8 @@ desired mask Groups = 0 ∷ 1 ∷ 0 ∷ 0 ∷ 50 ∷ 50 ∷ 0 ∷ 0 ∷ 0 ∷ 0 
 desired mask Flow = mask ∷ 8 ∷ []
 desired mask Applications = 137 ∷ 6 ∷ 0 ∷ 27 ∷ 33 ∷ 8 ∷ []
 
-unfoldable created : ℕ → ℕ → ℕ → Card
-created control flow mask = card.created (versions control flow) unwilling (desired mask) .card
+unfoldable created : ℕ → ℕ → ℕ → Port
+created control flow mask = events.createdPort (versions control flow) unwilling (desired mask)
 
 unfoldable w7 : Ends
 w7 = record { l = created 0 1 8; r = created 1 0 16; from-l = none; from-r = none }
@@ -54,22 +52,22 @@ small flow h control Flow = h
 small flow h control Applications = lit< tt
 
 begun : Begun w7
-unfolding w7 created desired versions card.created events.created events.settingsValid parameters.validLocal parameters.localValues parameters.valid parameters.validGroups parameters.validFlow parameters.validApplications parameters.isOurs parameters.oursOf parameters.ours parameters.fewAndNew parameters.goodHalves parameters.sum parameters.allFrom parameters.newName parameters.sameName parameters.ones
+unfolding w7 created desired versions events.settingsValid parameters.validLocal parameters.localValues parameters.valid parameters.validGroups parameters.validFlow parameters.validApplications parameters.isOurs parameters.oursOf parameters.ours parameters.fewAndNew parameters.goodHalves parameters.sum parameters.allFrom parameters.newName parameters.sameName parameters.ones
 begun =
     record {
-      l = created-started (record { versions = versions 0 1; switches = unwilling; parameters = desired 8; control = lit< tt; features = small 1 (lit< tt) 0; done = refl });
-      r = created-started (record { versions = versions 1 0; switches = unwilling; parameters = desired 16; control = lit< tt; features = small 0 (lit< tt) 1; done = refl });
+      l = created-starts (versions 0 1) unwilling (desired 8) (lit< tt) (small 1 (lit< tt) 0) refl;
+      r = created-starts (versions 1 0) unwilling (desired 16) (lit< tt) (small 0 (lit< tt) 1) refl;
       no-l = refl;
       no-r = refl;
     }
 
 -- SeqNo 2, RcvdAckNo 1
-numbers : (execAll (rounds (replicate 4 plainRound)) w7 .r .port .control .seq ≡ 2) × (execAll (rounds (replicate 4 plainRound)) w7 .r .port .control .rcvd ≡ 1)
-unfolding w7 created desired versions unwilling lent plainRound layout.headAt layout.foundAgain layout.counts layout.noted layout.onward layout.walkFrom layout.walked layout.isDcbx layout.judgedControl layout.readFrame parameters.featureNumber parameters.goodHalves parameters.sum parameters.validGroups parameters.validFlow parameters.sameName parameters.allFrom parameters.newName parameters.validApplications parameters.valid parameters.ones parameters.localValues parameters.validLocal parameters.clash parameters.clearOf parameters.compatible parameters.isOurs parameters.oursOf parameters.ours parameters.fewAndNew parameters.stored parameters.content rules.judged rules.outcome state.freshAt state.subTlv state.acknowledged state.received state.changed state.marked notices.emptyLog notices.shifted notices.logged notices.loggedAll writing.subTlvs writing.frame writing.toWrite writing.asks writing.written writing.output events.unsynced events.sent events.becomes events.listed events.inOrder events.started events.settingsValid events.created handling.exchanged handling.once handling.steps1to4 handling.markNotice handling.frameEvent handling.accepted handling.given handling.handled card.created card.handled ends.other ends.afterWrite ends.delivered ends.exec ends.execAll ends.quiet ends.maybe ends.writeOf ends.handleOf ends.calls ends.rounds same
+numbers : (execAll (rounds (replicate 4 plainRound)) w7 .r .control .seq ≡ 2) × (execAll (rounds (replicate 4 plainRound)) w7 .r .control .rcvd ≡ 1)
+unfolding w7 created desired versions unwilling lent plainRound layout.headAt layout.foundAgain layout.counts layout.noted layout.onward layout.walkFrom layout.walked layout.isDcbx layout.judgedControl layout.readFrame parameters.featureNumber parameters.goodHalves parameters.sum parameters.validGroups parameters.validFlow parameters.sameName parameters.allFrom parameters.newName parameters.validApplications parameters.valid parameters.ones parameters.localValues parameters.validLocal parameters.clash parameters.clearOf parameters.compatible parameters.isOurs parameters.oursOf parameters.ours parameters.fewAndNew parameters.stored parameters.content rules.judged rules.outcome state.freshAt state.subTlv state.acknowledged state.received state.changed state.marked writing.subTlvs writing.frame writing.toWrite writing.asks writing.written writing.output events.unsynced events.sent events.becomes events.started handling.exchanged handling.once handling.steps1to4 handling.markNotice handling.frameEvent handling.accepted handling.given handling.handled ends.other ends.afterWrite ends.delivered ends.exec ends.execAll ends.quiet ends.maybe ends.writeOf ends.handleOf ends.calls ends.rounds same
 numbers = (refl, refl)
 
 pub five-are-needed : (c : Ends) × Begun c × (rs : List Round) × (length rs ≡ 4) × Proper (rounds rs) c
-    × (execAll (rounds rs) c .r .port .control .rcvd ≡ execAll (rounds rs) c .r .port .control .seq → ⊥)
+    × (execAll (rounds rs) c .r .control .rcvd ≡ execAll (rounds rs) c .r .control .seq → ⊥)
 five-are-needed = (
   w7,
   begun,

@@ -13,15 +13,15 @@ use Rattle.port.specs.Parts.{featureOf, running}
 use Rattle.port.specs.PortEvents.{freshPort}
 use Rattle.port.specs.Settled.{settled}
 use Rattle.port.specs.Sound.{SoundPort}
-use Rattle.card.specs.declared.Card.{Card}
 use Rattle.exchange.specs.Rounds.{Ends, Round, Lossy, sideOf, rounds, lossyRounds, execAll, Proper, expected}
 
--- "Just started means running, several-neighbours flag off, and the fresh state with its send rule done, whatever the log holds."
-pub record JustStarted (c : Card) : Type 0 where
-  pub sound : SoundPort (c .port)
-  pub runs : running (c .port) ≡ true
-  pub single : c .port .several ≡ false
-  pub fresh : freshPort (c .port) ≡ c .port
+-- "Just started means running, several-neighbours flag off, and the fresh state with its send rule done, whatever the log holds.": the log
+-- is no part of a port
+pub record JustStarted (p : Port) : Type 0 where
+  pub sound : SoundPort p
+  pub runs : running p ≡ true
+  pub single : p .several ≡ false
+  pub fresh : freshPort p ≡ p
 
 -- two such ends, with no frame on its way
 pub record Begun (c : Ends) : Type 0 where
@@ -52,13 +52,21 @@ pub record Truthful (peer p : Port) : Type 0 where
       × (featureOf p f .outcome .peer .willing ≡ featureOf peer f .setting .willing)
       × (featureOf p f .outcome .peer .parameters ≡ featureOf peer f .setting .desired)
 
--- `agrees`: settled means agreed. After rounds of any number and with any losses, an end at which the exchange has come to rest
--- (a peer is seen, RcvdAckNo = SeqNo, every advertised feature is Syncd) has agreed, whatever holds of the other end.
+-- both halves of both ends, as they were and as they are now
+abbrev pub BothAgreed : Ends → Ends → Type 0
+BothAgreed before now = Agreed (before .l) (before .r) (now .l) × Agreed (before .r) (before .l) (now .r)
+
+abbrev pub BothTruthful : Ends → Ends → Type 0
+BothTruthful before now = Truthful (before .r) (now .l) × Truthful (before .l) (now .r)
+
+-- settled means agreed: an end at which the exchange has come to rest (a peer is seen, RcvdAckNo = SeqNo, every advertised feature is
+-- Syncd) has agreed, whatever holds of the other end
+abbrev pub SettledAgreed : Ends → Ends → Type 0
+SettledAgreed before now =
+    (settled (now .l) ≡ true → Agreed (before .l) (before .r) (now .l)) × (settled (now .r) ≡ true → Agreed (before .r) (before .l) (now .r))
+
+-- five rounds agree; rounds of any number and with any losses leave both ends truthful, and settled ones agreed
 pub record Demand3 (c : Ends) : Type 0 where
-  pub settles : (rs : List Round) → Proper (rounds rs) c → 5 ≤ length rs →
-      Agreed (c .l .port) (c .r .port) (execAll (rounds rs) c .l .port) × Agreed (c .r .port) (c .l .port) (execAll (rounds rs) c .r .port)
-  pub truthful : (rs : List Lossy) → Proper (lossyRounds rs) c →
-      Truthful (c .r .port) (execAll (lossyRounds rs) c .l .port) × Truthful (c .l .port) (execAll (lossyRounds rs) c .r .port)
-  pub agrees : (rs : List Lossy) → Proper (lossyRounds rs) c →
-      (settled (execAll (lossyRounds rs) c .l .port) ≡ true → Agreed (c .l .port) (c .r .port) (execAll (lossyRounds rs) c .l .port))
-      × (settled (execAll (lossyRounds rs) c .r .port) ≡ true → Agreed (c .r .port) (c .l .port) (execAll (lossyRounds rs) c .r .port))
+  pub settles : (rs : List Round) → Proper (rounds rs) c → 5 ≤ length rs → BothAgreed c (execAll (rounds rs) c)
+  pub truthful : (rs : List Lossy) → Proper (lossyRounds rs) c → BothTruthful c (execAll (lossyRounds rs) c)
+  pub agrees : (rs : List Lossy) → Proper (lossyRounds rs) c → SettledAgreed c (execAll (lossyRounds rs) c)

@@ -1,4 +1,4 @@
--- 01, Rounds of two ends: the calls of a list of rounds at two cards, and what two settings alone lead to.
+-- 01, Rounds of two ends: the calls of a list of rounds at two ports, and what two settings alone lead to.
 use Prim.Native.Nat.{ℕ}
 use mathlib.Core.Path.{_≡_}
 use mathlib.Core.Bool.{Bool, true, false, _&&_}
@@ -14,13 +14,14 @@ use Rattle.feature.specs.declared.Outcome.{Outcome}
 use Rattle.feature.specs.Outcome.{Received, lower, outcome}
 use Rattle.feature.specs.State.{flags, fresh}
 use Rattle.port.specs.declared.Port.{Port}
+use Rattle.port.specs.declared.Event.{Event}
 use Rattle.port.specs.declared.Written.{Written}
 use Rattle.port.specs.declared.Written.the-variants as wrote
 use Rattle.port.specs.declared.Answer.the-variants as answer
 use Rattle.port.specs.Parts.{featureOf}
 use Rattle.port.specs.Writing.{written, output}
-use Rattle.card.specs.declared.Card.{Card}
-use Rattle.card.specs.Card.{handled}
+use Rattle.port.specs.PortEvents.{unchanged}
+use Rattle.handling.specs.Handling.{handled}
 
 pub data End : Type 0 where
   left right : End
@@ -29,10 +30,10 @@ unfoldable pub other : End → End
 other left = right
 other right = left
 
--- both cards, and the frame that each wrote last
+-- both ports, and the frame that each wrote last
 pub record Ends : Type 0 where
-  pub l : Card
-  pub r : Card
+  pub l : Port
+  pub r : Port
   pub from-l : Option (List ℕ)
   pub from-r : Option (List ℕ)
 
@@ -55,22 +56,23 @@ unfoldable pub afterWrite : Written → List ℕ → Option (List ℕ) → Optio
 afterWrite (wrote.Octets n) out before = some (take n out)
 afterWrite (wrote.Refused why) out before = before
 
-abbrev pub onItsWay : Card → List ℕ → Option (List ℕ) → Option (List ℕ)
-onItsWay c out before = afterWrite (written (c .port) out) (output (c .port) out) before
+abbrev pub onItsWay : Port → List ℕ → Option (List ℕ) → Option (List ℕ)
+onItsWay p out before = afterWrite (written p out) (output p out) before
 
-unfoldable pub delivered : Card → Option (List ℕ) → Card
-delivered c none = c
-delivered c (some o) = handled c o .card
+-- the frame on its way is given to a port; where there is none, nothing happens
+unfoldable pub delivered : Port → Option (List ℕ) → Event
+delivered p none = unchanged p
+delivered p (some o) = handled p o
 
 unfoldable pub exec : Call → Ends → Ends
 exec (refused (write left out)) c = record { l = c .l; r = c .r; from-l = onItsWay (c .l) out (c .from-l); from-r = c .from-r }
 exec (refused (write right out)) c = record { l = c .l; r = c .r; from-l = c .from-l; from-r = onItsWay (c .r) out (c .from-r) }
-exec (refused (frame left o)) c = record { l = handled (c .l) o .card; r = c .r; from-l = c .from-l; from-r = c .from-r }
-exec (refused (frame right o)) c = record { l = c .l; r = handled (c .r) o .card; from-l = c .from-l; from-r = c .from-r }
+exec (refused (frame left o)) c = record { l = handled (c .l) o .port; r = c .r; from-l = c .from-l; from-r = c .from-r }
+exec (refused (frame right o)) c = record { l = c .l; r = handled (c .r) o .port; from-l = c .from-l; from-r = c .from-r }
 exec (writes left out) c = record { l = c .l; r = c .r; from-l = onItsWay (c .l) out (c .from-l); from-r = c .from-r }
 exec (writes right out) c = record { l = c .l; r = c .r; from-l = c .from-l; from-r = onItsWay (c .r) out (c .from-r) }
-exec (handles left) c = record { l = delivered (c .l) (c .from-r); r = c .r; from-l = c .from-l; from-r = c .from-r }
-exec (handles right) c = record { l = c .l; r = delivered (c .r) (c .from-l); from-l = c .from-l; from-r = c .from-r }
+exec (handles left) c = record { l = delivered (c .l) (c .from-r) .port; r = c .r; from-l = c .from-l; from-r = c .from-r }
+exec (handles right) c = record { l = c .l; r = delivered (c .r) (c .from-l) .port; from-l = c .from-l; from-r = c .from-r }
 
 unfoldable pub execAll : List Call → Ends → Ends
 execAll [] c = c
@@ -136,14 +138,14 @@ lossyRounds (r ∷ rs) = calls (r .losses) (r .round) ++ lossyRounds rs
 
 -- ---- each call answers as its name says, in the state that it meets
 
-abbrev pub RefusesWrite : Card → List ℕ → Type 0
-RefusesWrite c out = (why : Refusal) × (written (c .port) out ≡ wrote.Refused why)
+abbrev pub RefusesWrite : Port → List ℕ → Type 0
+RefusesWrite p out = (why : Refusal) × (written p out ≡ wrote.Refused why)
 
-abbrev pub Accepts : Card → List ℕ → Type 0
-Accepts c out = (n : ℕ) × (written (c .port) out ≡ wrote.Octets n)
+abbrev pub Accepts : Port → List ℕ → Type 0
+Accepts p out = (n : ℕ) × (written p out ≡ wrote.Octets n)
 
-abbrev pub RefusesFrame : Card → List ℕ → Type 0
-RefusesFrame c o = (why : Refusal) × (handled c o .answer ≡ answer.Refused why)
+abbrev pub RefusesFrame : Port → List ℕ → Type 0
+RefusesFrame p o = (why : Refusal) × (handled p o .answer ≡ answer.Refused why)
 
 abbrev pub Answers : Call → Ends → Type 0
 Answers (refused (write left out)) c = RefusesWrite (c .l) out

@@ -1,12 +1,12 @@
 -- What the rows of the worked table are computed from: the settings of document 01's W2 and their variants, frames made of its sub-TLVs,
--- calls at a card, and rounds between two.
+-- calls at a recorder, at its port 1 where any will do, and rounds between two.
 use Prim.Native.Nat.{ℕ, zero, suc, _/_, _%_}
 use Prim.Native.String.{String}
-use mathlib.Core.Bool.{Bool, true, false, not, _&&_}
+use mathlib.Core.Bool.{true, false, _&&_}
 use mathlib.Core.List.{List, [], _∷_, _++_, map}
 use mathlib.Core.Option.{none}
-use lib.ListN.{length, take, drop, replicate, getD}
-use Rattle.octets.specs.Words.{if_then_else_, _is_}
+use lib.ListN.{length, drop, replicate, getD, set}
+use lib.ListN as list
 use Rattle.octets.specs.Octets.{octets4}
 use Rattle.octets.specs.Texts.{text}
 use Rattle.tlv.specs.declared.Reading.{Reading}
@@ -24,20 +24,19 @@ use Rattle.notices.specs.declared.Kind.the-variants.{Bad, SeveralNeighbours, Tr
 use Rattle.notices.specs.declared.Log.{Log}
 use Rattle.notices.specs.declared.Notice.{Notice}
 use Rattle.notices.specs.Notices as notices
+use Rattle.port.specs.declared.Flag.the-variants.{Admin, Transmit, Several}
+use Rattle.port.specs.declared.Port.{Port}
 use Rattle.port.specs.Parts.{featureOf, three, withControl}
-use Rattle.port.specs.Replies.{bit, eventReply}
+use Rattle.port.specs.Replies.{bit}
 use Rattle.port.specs.Settled.{settled}
-use Rattle.port.specs.PortEvents as events
 use Rattle.handling.specs.Handling as handling
-use Rattle.card.specs.declared.Card.{Card}
-use Rattle.card.specs.declared.Handled.{Handled}
-use Rattle.card.specs.Card as card
-use Rattle.card.specs.Calls.{Call, after, afterAll, lentAfter, replyOf}
-use Rattle.card.specs.Calls as call
-use Rattle.card.specs.Logged.{raised}
+use Rattle.recorder.specs.declared.Recorder.{Recorder}
+use Rattle.recorder.specs.Recorder.{portAt, blank}
+use Rattle.recorder.specs.Calls.{Operation, create, frame, flag, setting, write, take, Call, raised, after, afterAll, lentAfter, replyOf}
 use Rattle.exchange.specs.Rounds as ends
+use Rattle.exchange.specs.Recorders as cable
 
--- a row: what it says, what the rules give, and what document 01 states
+-- a row: what it says, what the rules give, and what documents 01 and 02 state
 pub record Row : Type 0 where
   pub name : String
   pub given : List ℕ
@@ -149,38 +148,42 @@ percentages last = (0x00 ∷ 0x00 ∷ 0x00 ∷ 0x00 ∷ 0x32 ∷ 0x00 ∷ 0x00 �
 
 -- creation with switches for groups and applications and for flow control, the highest versions of control and of flow control, and the
 -- parameters
-unfoldable pub creates : Switches → Switches → ℕ → ℕ → (Feature → List ℕ) → Handled
-creates w x controlMax flowMax p = card.created (record { control = controlMax; groups = 0; flow = flowMax; applications = 0 }) (three w x w) p
+unfoldable pub creation : Switches → Switches → ℕ → ℕ → (Feature → List ℕ) → Operation
+creation w x controlMax flowMax p = create (record { control = controlMax; groups = 0; flow = flowMax; applications = 0 }) (three w x w) p
 
-unfoldable pub started : Switches → Switches → ℕ → ℕ → ℕ → Card
-started w x controlMax flowMax mask =
-    record {
-      port = events.createdPort (record { control = controlMax; groups = 0; flow = flowMax; applications = 0 }) (three w x w) (desired mask);
-      log = notices.emptyLog;
-    }
+-- with percentages of 101
+unfoldable pub invalid : Operation
+invalid = creation on on 0 0 (three (percentages 51) (desired 8 Flow) (desired 8 Applications))
 
--- W2's own
-unfoldable pub w2Card : Card
-w2Card = started on on 0 0 8
+-- ---- calls at a recorder
 
--- ---- calls at a card
+unfoldable pub at : ℕ → Operation → Call
+at n x = record { port = n; operation = x }
+
+-- a recorder whose port 1 is created so
+unfoldable pub started : Switches → Switches → ℕ → ℕ → ℕ → Recorder
+started w x controlMax flowMax mask = after blank (at 1 (creation w x controlMax flowMax (desired mask)))
+
+-- with W2's own
+unfoldable pub w2Recorder : Recorder
+w2Recorder = started on on 0 0 8
 
 unfoldable pub spoken : Reply → List ℕ
 spoken r = r .number ∷ r .values
 
 -- the answer in document 01's numbers, after some calls
-unfoldable pub answers : Card → List Call → Call → List ℕ
-answers c before x = spoken (replyOf (afterAll c before) x)
+unfoldable pub answers : Recorder → List Call → Call → List ℕ
+answers r before x = spoken (replyOf (afterAll r before) x)
 
 -- a write into n octets ff: the answer, and the output afterwards
 unfoldable pub ffs : ℕ → List ℕ
 ffs n = replicate n 255
 
-unfoldable pub wrote : Card → ℕ → List ℕ
-wrote c n = spoken (replyOf c (call.write (ffs n)))
+unfoldable pub wrote : Recorder → ℕ → List ℕ
+wrote r n = answers r [] (at 1 (write (ffs n)))
 
-unfoldable pub output : Card → ℕ → List ℕ
-output c n = lentAfter c (call.write (ffs n))
+unfoldable pub output : Recorder → ℕ → List ℕ
+output r n = getD (lentAfter r (at 1 (write (ffs n)))) 0 []
 
 -- number and feature of each notice
 unfoldable pub numbered : List Notice → List ℕ
@@ -188,35 +191,35 @@ numbered [] = []
 numbered (x ∷ xs) = notices.noticeNumber (x .kind) ∷ x .feature ∷ numbered xs
 
 -- those that a call raises, after some calls
-unfoldable pub raises : Card → List Call → Call → List ℕ
-raises c before x = numbered (raised (afterAll c before) x)
+unfoldable pub raises : Recorder → List Call → Call → List ℕ
+raises r before x = numbered (raised (afterAll r before) x)
 
 -- the reason of a feature, in document 01's words; and of all three
-unfoldable pub reasonOf : Card → Feature → List ℕ
-reasonOf c f = text (reasonWord (featureOf (c .port) f .outcome .reason))
+unfoldable pub reasonOf : Port → Feature → List ℕ
+reasonOf p f = text (reasonWord (featureOf p f .outcome .reason))
 
-unfoldable pub reasons : Card → List ℕ
-reasons c = reasonOf c Groups ++ text ", " ++ reasonOf c Flow ++ text ", " ++ reasonOf c Applications
+unfoldable pub reasons : Port → List ℕ
+reasons p = reasonOf p Groups ++ text ", " ++ reasonOf p Flow ++ text ", " ++ reasonOf p Applications
 
 -- the reason of flow control after a frame of these sub-TLVs
 unfoldable pub flowReason : List ℕ → List ℕ
-flowReason subTlvs = reasonOf (after w2Card (call.frame (frameOf subTlvs))) Flow
+flowReason subTlvs = reasonOf (portAt (after w2Recorder (at 1 (frame (frameOf subTlvs)))) 1) Flow
 
-unfoldable pub configurationOf : Card → Feature → List ℕ
-configurationOf c f = parameters.content (rules.configuration (featureOf (c .port) f .setting) (featureOf (c .port) f .outcome))
+unfoldable pub configurationOf : Port → Feature → List ℕ
+configurationOf p f = parameters.content (rules.configuration (featureOf p f .setting) (featureOf p f .outcome))
 
--- parameters of a feature: the reason when they come to W2's card, and the answer when they are set there
+-- parameters of a feature: the reason when they come to W2's port, and the answer when they are set there
 unfoldable pub came : Feature → List ℕ → List ℕ
 came f p =
     text
-    (reasonWord (rules.outcome f 0 (featureOf (w2Card .port) f .setting) 0 (record { count = 1; value = (0x00 ∷ 0x00 ∷ 0x80 ∷ 0x00 ∷ []) ++ p }) .reason))
+    (reasonWord (rules.outcome f 0 (featureOf (portAt w2Recorder 1) f .setting) 0 (record { count = 1; value = (0x00 ∷ 0x00 ∷ 0x80 ∷ 0x00 ∷ []) ++ p }) .reason))
 
--- what W2's card holds of entries that come
+-- what W2's port holds of entries that come
 unfoldable pub holds : List ℕ → List ℕ
-holds p = parameters.content (rules.outcome Applications 0 (featureOf (w2Card .port) Applications .setting) 0 (record { count = 1; value = (0x00 ∷ 0x00 ∷ 0x80 ∷ 0x00 ∷ []) ++ p }) .peer .parameters)
+holds p = parameters.content (rules.outcome Applications 0 (featureOf (portAt w2Recorder 1) Applications .setting) 0 (record { count = 1; value = (0x00 ∷ 0x00 ∷ 0x80 ∷ 0x00 ∷ []) ++ p }) .peer .parameters)
 
-unfoldable pub set : Feature → List ℕ → List ℕ
-set f p = spoken (replyOf w2Card (call.setting (parameters.featureNumber f) on p))
+unfoldable pub sets : Feature → List ℕ → List ℕ
+sets f p = answers w2Recorder [] (at 1 (setting (parameters.featureNumber f) on p))
 
 -- ---- rounds
 
@@ -234,28 +237,46 @@ plainRound =
       calls-4 = [];
     }
 
--- two cards after n rounds
-unfoldable pub rounds : ℕ → Card → Card → ends.Ends
-rounds n a b = ends.execAll (ends.rounds (replicate n plainRound)) (record { l = a; r = b; from-l = none; from-r = none })
+-- the two ports that a cable joins, after what happens
+unfoldable pub joined : cable.Cable → Recorder → Recorder → List cable.Happening → ends.Ends
+joined k a b xs = cable.ends k (cable.execAll k xs (record { l = a; r = b; from-l = none; from-r = none }))
+
+-- port 1 of one recorder and port 1 of another, after n rounds
+unfoldable pub rounds : Recorder → Recorder → ℕ → ends.Ends
+rounds a b n = joined (record { left = 1; right = 1 }) a b (map cable.exchange (ends.rounds (replicate n plainRound)))
+
+-- before each call of an exchange between port 3 and port 2, port 1 of the left recorder raises a notice and port 3 takes one; behind it,
+-- port 1 of the right recorder is created anew and a flag of port 4 is set
+unfoldable pub busy : List ends.Call → List cable.Happening
+busy [] = []
+busy (x ∷ xs) =
+    cable.beside ends.left (at 1 (flag Several true)) ∷ cable.beside ends.left (at 1 (flag Several false)) ∷ cable.beside ends.left (at 3 take)
+    ∷ cable.exchange x ∷ cable.beside ends.right (at 1 (creation on on 3 3 (desired 1))) ∷ cable.beside ends.right (at 4 (flag Admin true))
+    ∷ busy xs
+
+-- port 3 of one and port 2 of another, created so, after n rounds among what happens at the others
+unfoldable pub busyRounds : Operation → Operation → ℕ → ends.Ends
+busyRounds x y n =
+    joined (record { left = 3; right = 2 }) (after blank (at 3 x)) (after blank (at 2 y)) (busy (ends.rounds (replicate n plainRound)))
 
 -- 1 if both ends are settled
 unfoldable pub bothSettled : ends.Ends → ℕ
-bothSettled e = bit (settled (e .l .port) && settled (e .r .port))
+bothSettled e = bit (settled (e .l) && settled (e .r))
 
 -- SeqNo, AckNo and RcvdAckNo
-unfoldable pub numbers : Card → List ℕ
-numbers c = c .port .control .seq ∷ c .port .control .ack ∷ c .port .control .rcvd ∷ []
+unfoldable pub numbers : Port → List ℕ
+numbers p = p .control .seq ∷ p .control .ack ∷ p .control .rcvd ∷ []
 
 -- the versions run at: control's, then the features'
-unfoldable pub versions : Card → List ℕ
-versions c = c .port .control .oper ∷ c .port .groups .outcome .oper ∷ c .port .flow .outcome .oper ∷ c .port .applications .outcome .oper ∷ []
+unfoldable pub versions : Port → List ℕ
+versions p = p .control .oper ∷ p .groups .outcome .oper ∷ p .flow .outcome .oper ∷ p .applications .outcome .oper ∷ []
 
 -- The rows of an exchange. Both ends are settled after n rounds and a last one, and not before the last; SeqNo, AckNo and RcvdAckNo, the
 -- versions and the reasons are as stated at both ends.
-unfoldable pub exchange : String → ℕ → Card → Card → List ℕ → List ℕ → String → List Row
-exchange name n a b statedNumbers statedVersions statedReasons =
-    let before : ends.Ends = rounds n a b in
-    let now : ends.Ends = rounds (suc n) a b in
+unfoldable pub exchange : String → (ℕ → ends.Ends) → ℕ → List ℕ → List ℕ → String → List Row
+exchange name roundsOf n statedNumbers statedVersions statedReasons =
+    let before : ends.Ends = roundsOf n in
+    let now : ends.Ends = roundsOf (suc n) in
     row name (bothSettled before ∷ bothSettled now ∷ []) (0 ∷ 1 ∷ [])
     ∷ row name (numbers (now .l)) statedNumbers
     ∷ row name (numbers (now .r)) statedNumbers
@@ -272,23 +293,52 @@ kinds = Bad ∷ SeveralNeighbours ∷ TransmitOff ∷ ReceiveOff ∷ DuplicateCo
 
 unfoldable pub differing : ℕ → ℕ → List Notice
 differing zero i = []
-differing (suc n) i = record { kind = getD kinds (i % 9) Bad; feature = i / 9 } ∷ differing n (suc i)
+differing (suc n) i = record { port = 1; kind = getD kinds (i % 9) Bad; feature = i / 9 } ∷ differing n (suc i)
 
-unfoldable pub thirtyThree : Log
-thirtyThree = notices.loggedAll notices.emptyLog (differing 33 0)
+unfoldable pub sixtyFive : Log
+sixtyFive = notices.loggedAll notices.emptyLog (differing 65 0)
+
+-- ---- the log by calls. Port n raises k notices: 4 first, then 3 and 3 again.
+
+unfoldable pub again : ℕ → ℕ → List Call
+again n zero = []
+again n (suc k) = at n (flag Several true) ∷ at n (flag Several false) ∷ again n k
+
+unfoldable pub raising : ℕ → ℕ → List Call
+raising n zero = []
+raising n (suc k) = at n (flag Transmit true) ∷ at n (flag Transmit false) ∷ again n k
+
+-- ports 1 to 4 raise so many each, one port after the other
+unfoldable pub filled : ℕ → ℕ → ℕ → ℕ → Recorder
+filled a b c d = afterAll blank (raising 1 a ++ raising 2 b ++ raising 3 c ++ raising 4 d)
+
+unfoldable pub uneven : Recorder
+uneven = filled 30 16 15 3
+
+-- how many notices ports 1 to 4 hold, and how many they have lost
+unfoldable pub heldAndLost : Recorder → List ℕ
+heldAndLost r = map (λ n. notices.countOf n (r .log)) (1 ∷ 2 ∷ 3 ∷ 4 ∷ []) ++ r .log .dropped
+
+-- after port n raises one more
+unfoldable pub oneMore : Recorder → ℕ → Recorder
+oneMore r n = after r (at n (flag Several true))
+
+-- the number and the feature of the oldest of each port
+unfoldable pub oldest : Recorder → List ℕ
+oldest r = answers r [] (at 1 take) ++ answers r [] (at 2 take) ++ answers r [] (at 3 take) ++ answers r [] (at 4 take)
 
 -- ---- W10: a settled end whose SeqNo 4,294,967,295 is outstanding, and whose flow control mask is changed meanwhile
 
-unfoldable pub outstanding : Card
+unfoldable pub outstanding : Recorder
 outstanding =
-    let c : Card = rounds 3 w2Card w2Card .l in
+    let p : Port = rounds w2Recorder w2Recorder 3 .l in
     record {
-      port = withControl (c .port) (record { max = 0; oper = 0; seq = 4294967295; ack = 1; rcvd = 4294967294; seen = true; duplicate = false });
-      log = c .log;
+      ports = set (w2Recorder .ports) 0 (withControl p (record { max = 0; oper = 0; seq = 4294967295; ack = 1; rcvd = 4294967294; seen = true; duplicate = false }));
+      log = w2Recorder .log;
     }
 
-unfoldable pub pending : Card
-pending = after outstanding (call.setting 3 on (0x10 ∷ 0x08 ∷ []))
+unfoldable pub pending : Recorder
+pending = after outstanding (at 1 (setting 3 on (0x10 ∷ 0x08 ∷ [])))
 
 unfoldable pub acknowledging : Call
-acknowledging = call.frame (take 14 w2 ++ octets4 4294967295 ++ drop 18 w2)
+acknowledging = at 1 (frame (list.take 14 w2 ++ octets4 4294967295 ++ drop 18 w2))

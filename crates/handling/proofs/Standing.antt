@@ -14,7 +14,7 @@ use Rattle.tlv.specs.declared.Reading.the-variants.{Refused, Accepted}
 use Rattle.tlv.specs.Layout.{readFrame}
 use Rattle.parameters.specs.declared.Feature.{Feature}
 use Rattle.parameters.specs.declared.Feature.the-variants.{Groups, Flow, Applications}
-use Rattle.parameters.specs.Parameters.{valid, localValues, validLocal, ours, stored, content}
+use Rattle.parameters.specs.Parameters.{goodHalves, sum, validGroups, validFlow, allFrom, fewAndNew, validApplications, valid, ones, localValues, validLocal, oursOf, ours, stored, content}
 use Rattle.parameters.specs.FeatureLaws.{ours-length, local-ours}
 use Rattle.parameters.specs.StoringLaws.{content-stored}
 use Rattle.feature.specs.declared.Setting.{Setting}
@@ -30,7 +30,7 @@ use Rattle.port.specs.declared.Raised.{Raised}
 use Rattle.port.specs.declared.Raised.the-variants as raised
 use Rattle.port.specs.declared.Versions.{Versions}
 use Rattle.port.specs.Parts.{featureOf, maxOf, withControl, withFeatures, flagOf, withFlag, running}
-use Rattle.port.specs.PortEvents.{sent, freshControl, freshParts, freshPort, event, unchanged, refused, started, createdPort, settingsValid, restarts, flagNotice, flagSet, flagged, peerGone, step5, completed, withFeature, withSetting, settingChanged, setTo, changedFeature, changedSetting}
+use Rattle.port.specs.PortEvents.{sent, freshControl, freshParts, freshPort, event, unchanged, refused, started, createdPort, settingsValid, restarts, flagNotice, flagSet, flagged, peerGone, step5, completed, withFeature, withSetting, settingChanged, setTo, changedFeature, changedSetting, switchedOff, blankParameters, blankState, blankPort}
 use Rattle.handling.specs.Handling.{Message, message, twice, met, exchanged, once, steps1to4, frameEvent, accepted, given, handled}
 use Rattle.port.specs.Sound.{SoundSetting, SoundState, SoundPort}
 use Rattle.handling.proofs.Tests.{beq-not, each-true}
@@ -345,3 +345,23 @@ module _ (v : Versions) (w : Feature → Switches) (o : Feature → List ℕ) wh
     pub created-stands : Standing (createdPort v w o)
     unfolding started
     created-stands = running-stands (createdPort v w o) (sent-sound unsent unsent-sound) created-runs
+
+-- ---- where no port has been made
+
+blank-valid : (f : Feature) → validLocal f (blankParameters f) ≡ true
+unfolding blankParameters validLocal valid localValues validGroups validFlow validApplications goodHalves sum ones fewAndNew allFrom ours oursOf
+blank-valid Groups = refl
+blank-valid Flow = refl
+blank-valid Applications = refl
+
+blank-state-sound : (f : Feature) → SoundState f (blankState f)
+blank-state-sound f = fresh-sound 1 0 (settingOf f switchedOff (blankParameters f)) f (lit< tt) (lit< tt) (setting-sound f switchedOff (blankParameters f) (blank-valid f))
+
+pub blank-stands : Standing blankPort
+unfolding blankPort freshPort freshAt
+blank-stands =
+    record {
+      sound = port-sound blankPort (record { max = lit< tt; oper = le-refl 0; seq = lit< tt; ack = lit< tt; rcvd = lit< tt })
+          (blank-state-sound Groups) (blank-state-sound Flow) (blank-state-sound Applications);
+      stopped = λ e. refl;
+    }

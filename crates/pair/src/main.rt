@@ -1,51 +1,77 @@
 // Will two ends agree? Reads the settings of A and of B, runs rounds until both ends are settled, and reports (docs/FORMATS.md).
-use card::Card;
 use console::settings::Settings;
 use exchange::Pair;
 use feature::State;
+use notices::Log;
 use parameters::Feature;
+use port::Port;
 
 // Five rounds are always enough (01, Rounds of two ends).
 const ROUNDS: u64 = 5;
 
-// Two ends of a cable, after so many rounds.
+// The number of the port at each end.
+const PORT: u8 = 1;
+
+// The refusal of an invalid setting (01, Refusal numbers).
+const INVALID: u8 = 9;
+
+// Two ends of a cable after so many rounds, each with a log of its own.
 struct Ends {
-    a: Card,
-    b: Card,
+    a: Port,
+    b: Port,
+    log_a: Log,
+    log_b: Log,
     rounds: u64,
 }
 
-// Both ends, just created.
-fn create(x: Settings, y: Settings) -> Pair {
-    let left = console::settings::create(x);
-    let right = console::settings::create(y);
-    let a = left.card;
-    let b = right.card;
-    Pair { left: a, right: b }
+// A port, just created.
+fn create(s: Settings) -> Port {
+    let e = console::settings::create(port::events::blank(), s);
+    e.port
 }
 
 // One round between the two ends.
-fn round(p: Pair) -> Pair {
+fn round(a: Port, b: Port) -> Pair {
     let mut from_a = [0; 147];
     let mut from_b = [0; 147];
-    exchange::round(p.left, p.right, &mut from_a, &mut from_b)
+    exchange::round(a, b, &mut from_a, &mut from_b)
 }
 
-// Rounds until both ends are settled; settled means agreed (exchange/specs/Demand3.antt, `agrees`).
-fn settle(start: Pair) -> Ends {
-    let mut pair = start;
-    let mut rounds: u64 = 0;
-    while rounds < ROUNDS && !exchange::settled(pair.left, pair.right) {
-        pair = round(pair);
-        rounds += 1;
-    }
-    let a = pair.left;
-    let b = pair.right;
+// The ends after one more round; what each raised stands in its log.
+fn behind_round(e: Ends) -> Ends {
+    let p = round(e.a, e.b);
+    let a = p.left;
+    let b = p.right;
+    let of_a = p.of_left;
+    let of_b = p.of_right;
+    let log_a = recorder::keep(e.log_a, PORT, of_a);
+    let log_b = recorder::keep(e.log_b, PORT, of_b);
     Ends {
         a: a,
         b: b,
-        rounds: rounds,
+        log_a: log_a,
+        log_b: log_b,
+        rounds: e.rounds,
     }
+}
+
+// Rounds until both ends are settled; settled means agreed (exchange/specs/Demand3.antt, `agrees`).
+fn settle(a: Port, b: Port) -> Ends {
+    let none = notices::empty();
+    let mut ends = Ends {
+        a: a,
+        b: b,
+        log_a: none,
+        log_b: none,
+        rounds: 0,
+    };
+    let mut rounds: u64 = 0;
+    while rounds < ROUNDS && !exchange::settled(ends.a, ends.b) {
+        ends = behind_round(ends);
+        rounds += 1;
+    }
+    ends.rounds = rounds;
+    ends
 }
 
 // An end advertises a feature, and its mode is false.
@@ -62,8 +88,7 @@ struct Open {
     applications: bool,
 }
 
-fn open_features(c: Card) -> Open {
-    let p = c.port;
+fn open_features(p: Port) -> Open {
     Open {
         groups: is_open(p.groups),
         flow: is_open(p.flow),
@@ -100,8 +125,7 @@ fn control_line(out: &mut [u8], at: usize, name: &[u8], version: u8) -> usize {
 }
 
 // What an end has come to; each line begins with its name.
-fn end_lines(out: &mut [u8], at: usize, name: &[u8], c: Card) -> usize {
-    let p = c.port;
+fn end_lines(out: &mut [u8], at: usize, name: &[u8], p: Port, l: Log) -> usize {
     let k = p.control;
     let a = control_line(out, at, name, k.oper);
     let b = report::configurations::feature_line(out, a, name, Feature::Groups, p.groups);
@@ -113,43 +137,42 @@ fn end_lines(out: &mut [u8], at: usize, name: &[u8], c: Card) -> usize {
         Feature::Applications,
         p.applications,
     );
-    report::states::notice_lines(out, e, name, c.log, 0)
+    report::states::notice_lines(out, e, name, l, PORT)
 }
 
 // The whole report.
-fn report_on(out: &mut [u8], rounds: u64, a: Card, b: Card) -> usize {
-    let first = verdict(out, 0, rounds, open_features(a), open_features(b));
-    let second = end_lines(out, first, b"A ", a);
-    end_lines(out, second, b"B ", b)
+fn report_on(out: &mut [u8], e: Ends) -> usize {
+    let first = verdict(out, 0, e.rounds, open_features(e.a), open_features(e.b));
+    let second = end_lines(out, first, b"A ", e.a, e.log_a);
+    end_lines(out, second, b"B ", e.b, e.log_b)
 }
 
 // Creates both ends, lets them exchange frames, and reports; the place behind the report.
 fn compared(out: &mut [u8], x: Settings, y: Settings) -> usize {
-    let e = settle(create(x, y));
-    report_on(out, e.rounds, e.a, e.b)
+    report_on(out, settle(create(x), create(y)))
 }
 
 // The report on settings that were read, or what is wrong with them.
 fn judged(out: &mut [u8], x: Settings, y: Settings) -> usize {
     let bad = console::settings::invalid_line(x);
     if bad != 0 {
-        return report::answers::refused_setting(out, 0, bad);
+        return report::answers::refused_setting(out, 0, bad, INVALID);
     }
     let wrong = console::settings::invalid_line(y);
     if wrong != 0 {
-        return report::answers::refused_setting(out, 0, wrong);
+        return report::answers::refused_setting(out, 0, wrong, INVALID);
     }
     compared(out, x, y)
 }
 
 // Reads both ends, and gives the place behind what is to be said.
 fn said(input: &mut [u8], out: &mut [u8]) -> usize {
-    let x = console::settings::read_end(input, console::start());
+    let x = console::settings::read_port(input, console::start(), false);
     let first = x.lines;
     if !x.good {
         return report::answers::unread_setting(out, 0, console::settings::unread_line(first));
     }
-    let y = console::settings::read_end(input, first);
+    let y = console::settings::read_port(input, first, false);
     let second = y.lines;
     if !y.good {
         return report::answers::unread_setting(out, 0, console::settings::unread_line(second));

@@ -3,7 +3,8 @@
 use Prim.Native.Nat.{ℕ}
 use mathlib.Core.Bool.{Bool, true, false, not, _&&_, _||_, Bool·beq}
 use mathlib.Core.Path.{_≡_, _∙_, refl, sym, ap}
-use mathlib.Core.List.{List}
+use lib.ListN.{replicate}
+use mathlib.Core.List.{List, [], _∷_}
 use borrow.Author.Tests.{not-true, not-false, eq-eqb, ne-eqb}
 use Rattle.octets.specs.Words.{if_then_else_, _is_}
 use Rattle.tlv.specs.declared.Refusal.the-variants.{NotRunning, InvalidSetting, UnknownFeature}
@@ -33,7 +34,7 @@ use Rattle.port.specs.Writing.{asks}
 use Rattle.port.specs.Parts.{featureOf, three, withControl, withFeatures, some, withFlag, flagOf, running}
 use Rattle.port.specs.Replies.{raisedNumber}
 use Rattle.port.specs.Settled.{settled}
-use Rattle.port.specs.PortEvents.{unsynced, sent, withSeq, freshControl, freshParts, freshPort, completed, noticed, becomes, raises, restarts, flagSet, withFeature, withSetting, settingChanged, noSetting, blankPort, started, silent, event, unchanged, refused, flagNotice, flagged, peerGone, setTo, changedFeature, changedSetting, made, created, settingsValid}
+use Rattle.port.specs.PortEvents.{unsynced, sent, withSeq, freshControl, freshParts, freshPort, completed, noticed, becomes, raises, restarts, flagSet, withFeature, withSetting, settingChanged, switchedOff, blankParameters, blankPort, started, silent, event, unchanged, refused, flagNotice, flagged, peerGone, setTo, changedFeature, changedSetting, made, created, settingsValid}
 
 -- ---- the send rule
 
@@ -183,10 +184,14 @@ pub start-is : (v : Versions) (g w a : Setting) {x y z : State} {c : Control} {p
 unfolding started
 start-is v g w a ex ey ez ec ep = ep ∙ rw (ex, ey, ez, ec) refl
 
-pub blank-is : {x : State} {c : Control} → x ≡ freshAt 1 0 noSetting → c ≡ freshControl 0
-    → record { admin = false; receive = false; transmit = false; several = false; control = c; groups = x; flow = x; applications = x } ≡ blankPort
-unfolding blankPort
-blank-is ex ec = rw (ex, ec) refl
+pub blank-state : (f : Feature) (o : List ℕ) {s : Setting} {x : State} → s ≡ settingOf f switchedOff o → x ≡ freshAt 1 0 s → x ≡ fresh 0 (settingOf f switchedOff o)
+blank-state f o es ex = ex ∙ rw es refl
+
+pub blank-is : {c : Control} {g w a : State} {o : List ℕ} → c ≡ freshControl 0 → g ≡ fresh 0 (settingOf Groups switchedOff (0 ∷ 0 ∷ 0 ∷ 0 ∷ 100 ∷ 0 ∷ 0 ∷ 0 ∷ 0 ∷ 0 ∷ 0 ∷ 0 ∷ 0 ∷ []))
+    → w ≡ fresh 0 (settingOf Flow switchedOff (replicate 2 0)) → o ≡ [] → a ≡ fresh 0 (settingOf Applications switchedOff o)
+    → record { admin = false; receive = false; transmit = false; several = false; control = c; groups = g; flow = w; applications = a } ≡ blankPort
+unfolding blankPort blankParameters
+blank-is ec eg ew eo ea = rw (ec, eg, ew, ea, eo) refl
 
 -- ---- events
 
@@ -259,29 +264,26 @@ module _ (n : ℕ) (w : Switches) (o : List ℕ) (p : Port) {e : Event} where
 
 -- ---- creation
 
-pub made-is : (v : Versions) (g w a : Setting) {p : Port} {n : Notices} → p ≡ started v g w a → n ≡ silent
-    → record { answer = Done true; port = p; notices = n } ≡ made (started v g w a)
-made-is v g w a ep en = rw (ep, en) refl
+pub made-is : (before : Port) (v : Versions) (g w a : Setting) {p : Port} {b : Bool} {n : Notices} → p ≡ started v g w a → b ≡ asks before p → n ≡ silent
+    → record { answer = Done b; port = p; notices = n } ≡ made before (started v g w a)
+made-is before v g w a ep eb en = rw (eb, ep, en) refl
 
-pub none-made : {p : Port} {e : Event} → p ≡ blankPort → e ≡ refused InvalidSetting p → e ≡ refused InvalidSetting blankPort
-none-made ep ee = ee ∙ rw ep refl
-
-module _ (v : Versions) (g w a : Switches) (gp wp ap : List ℕ) {e : Event} {b : Bool} (eb : b ≡ validLocal Groups gp) where
-  pub created-groups : not b ≡ true → e ≡ refused InvalidSetting blankPort → e ≡ created v (three g w a) (three gp wp ap)
+module _ (p : Port) (v : Versions) (g w a : Switches) (gp wp ap : List ℕ) {e : Event} {b : Bool} (eb : b ≡ validLocal Groups gp) where
+  pub created-groups : not b ≡ true → e ≡ refused InvalidSetting p → e ≡ created v (three g w a) (three gp wp ap) p
   unfolding created settingsValid
   created-groups t er = er ∙ rw (← eb, not-true b t) refl
 
   module _ (t : not b ≡ false) {c : Bool} (ec : c ≡ validLocal Flow wp) where
-    pub created-flow : not c ≡ true → e ≡ refused InvalidSetting blankPort → e ≡ created v (three g w a) (three gp wp ap)
+    pub created-flow : not c ≡ true → e ≡ refused InvalidSetting p → e ≡ created v (three g w a) (three gp wp ap) p
     unfolding created settingsValid
     created-flow u er = er ∙ rw (← eb, not-false b t, ← ec, not-true c u) refl
 
     module _ (u : not c ≡ false) {d : Bool} (ed : d ≡ validLocal Applications ap) where
-      pub created-applications : not d ≡ true → e ≡ refused InvalidSetting blankPort → e ≡ created v (three g w a) (three gp wp ap)
+      pub created-applications : not d ≡ true → e ≡ refused InvalidSetting p → e ≡ created v (three g w a) (three gp wp ap) p
       unfolding created settingsValid
       created-applications x er = er ∙ rw (← eb, not-false b t, ← ec, not-false c u, ← ed, not-true d x) refl
 
       pub created-made : {x y z : Setting} → not d ≡ false → x ≡ settingOf Groups g gp → y ≡ settingOf Flow w wp → z ≡ settingOf Applications a ap
-          → e ≡ made (started v x y z) → e ≡ created v (three g w a) (three gp wp ap)
+          → e ≡ made p (started v x y z) → e ≡ created v (three g w a) (three gp wp ap) p
       unfolding created settingsValid
       created-made k ex ey ez er = er ∙ rw (ex, ey, ez, ← eb, not-false b t, ← ec, not-false c u, ← ed, not-false d k) refl

@@ -13,7 +13,7 @@ use Rattle.feature.specs.declared.Setting.{Setting}
 use Rattle.feature.specs.declared.Switches.{Switches}
 use Rattle.feature.specs.declared.State.{State}
 use Rattle.feature.specs.Reasons.{reasonNumber}
-use Rattle.parameters.specs.Parameters.{featureNumber, validLocal, noParameters}
+use Rattle.parameters.specs.Parameters.{featureNumber, validLocal}
 use Rattle.feature.specs.State.{next, fresh, stopped, marked, settingOf, sameSetting, reset}
 use Rattle.notices.specs.declared.Kind.{Kind}
 use Rattle.notices.specs.declared.Kind.the-variants as kind
@@ -92,13 +92,15 @@ raises x before after =
 abbrev pub silent : Notices
 silent = record { port = raised.Nothing; groups = raised.Nothing; flow = raised.Nothing; applications = raised.Nothing }
 
--- "Port notices come first, then ascending features." "its feature, 0 for a port notice"
-unfoldable pub listed : Raised → ℕ → List Notice → List Notice
-listed raised.Nothing feature rest = rest
-listed (raised.Notice k) feature rest = record { kind = k; feature = feature } ∷ rest
+-- "Port notices come first, then ascending features." "its feature, 0 for a port notice"; 02, E10: "each with its port number"
+unfoldable pub listed : ℕ → Raised → ℕ → List Notice → List Notice
+listed port raised.Nothing feature rest = rest
+listed port (raised.Notice k) feature rest = record { port = port; kind = k; feature = feature } ∷ rest
 
-unfoldable pub inOrder : Notices → List Notice
-inOrder n = listed (n .port) 0 (listed (n .groups) (featureNumber Groups) (listed (n .flow) (featureNumber Flow) (listed (n .applications) (featureNumber Applications) [])))
+unfoldable pub inOrder : ℕ → Notices → List Notice
+inOrder port n =
+    listed port (n .port) 0
+    (listed port (n .groups) (featureNumber Groups) (listed port (n .flow) (featureNumber Flow) (listed port (n .applications) (featureNumber Applications) [])))
 
 -- ---- Events
 
@@ -132,9 +134,18 @@ started v g w a =
 abbrev pub createdPort : Versions → (Feature → Switches) → (Feature → List ℕ) → Port
 createdPort v w p = started v (settingOf Groups (w Groups) (p Groups)) (settingOf Flow (w Flow) (p Flow)) (settingOf Applications (w Applications) (p Applications))
 
--- what stands for a port where none is made, which document 01 leaves free: fresh and stopped, versions 0, nothing advertised
-abbrev pub noSetting : Setting
-noSetting = record { advertise = false; enable = false; willing = false; desired = noParameters }
+-- what stands where no port has been made, which document 01 leaves free: stopped, versions 0, nothing advertised or enabled; all
+-- priorities in group 0, which has 100 per cent, none under flow control, no applications
+abbrev pub switchedOff : Switches
+switchedOff = record { advertise = false; enable = false; willing = false }
+
+unfoldable pub blankParameters : Feature → List ℕ
+blankParameters Groups = 0 ∷ 0 ∷ 0 ∷ 0 ∷ 100 ∷ 0 ∷ 0 ∷ 0 ∷ 0 ∷ 0 ∷ 0 ∷ 0 ∷ 0 ∷ []
+blankParameters Flow = 0 ∷ 0 ∷ []
+blankParameters Applications = []
+
+abbrev pub blankState : Feature → State
+blankState f = fresh 0 (settingOf f switchedOff (blankParameters f))
 
 unfoldable pub blankPort : Port
 blankPort =
@@ -144,21 +155,21 @@ blankPort =
       transmit = false;
       several = false;
       control = freshControl 0;
-      groups = fresh 0 noSetting;
-      flow = fresh 0 noSetting;
-      applications = fresh 0 noSetting;
+      groups = blankState Groups;
+      flow = blankState Flow;
+      applications = blankState Applications;
     }
 
 unfoldable pub settingsValid : (Feature → List ℕ) → Bool
 settingsValid p = each (λ f. validLocal f (p f))
 
--- "a stopped port has none, so creation .. ask"
-abbrev pub made : Port → Event
-made p = record { answer = Done true; port = p; notices = silent }
+-- a port in the place of another: "a stopped port has none, so creation .. ask", and so it does wherever the octets differ
+abbrev pub made : Port → Port → Event
+made before p = record { answer = Done (asks before p); port = p; notices = silent }
 
--- "creation with an invalid setting gives 9 and makes no port"
-unfoldable pub created : Versions → (Feature → Switches) → (Feature → List ℕ) → Event
-created v w p = if settingsValid p then made (createdPort v w p) else refused InvalidSetting blankPort
+-- "creation with an invalid setting gives 9 and makes no port": what stood in its place stays
+unfoldable pub created : Versions → (Feature → Switches) → (Feature → List ℕ) → Port → Event
+created v w o p = if settingsValid o then made p (createdPort v w o) else refused InvalidSetting p
 
 -- "Start and stop of running, .. and the several-neighbours flag going on, each go to the fresh state of the present settings.
 -- Clearing that flag changes only the flag."

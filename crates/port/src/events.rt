@@ -1,14 +1,13 @@
 // The events of a port but frames: fresh states, the send rule, creation, flags, peer gone and setting changes.
 ghost use mathlib.Core.Path.{_≡_};
 ghost use mathlib.Core.Bool.{_&&_};
-ghost use Rattle.feature.specs.State.{fresh, stopped};
-ghost use Rattle.tlv.specs.declared.Refusal.the-variants.{InvalidSetting};
+ghost use Rattle.feature.specs.State.{fresh, stopped, settingOf};
 ghost use Rattle.port.specs.Parts.{featureOf, withFeatures, three, flagOf, withFlag};
 ghost use Rattle.octets.specs.Words.{_is_};
 ghost use Rattle.port.specs.EventLaws.{counted};
 ghost use Rattle.port.specs.Replies.{raisedNumber};
 ghost use Rattle.port.specs.Settled.{settled};
-ghost use Rattle.port.specs.PortEvents.{unsynced, sent, freshControl, freshParts, freshPort, completed, noticed, becomes, raises, silent, refused, unchanged, flagNotice, restarts, flagSet, withFeature, withSetting, settingChanged, blankPort, started, event, flagged, peerGone, setTo, changedFeature, changedSetting, made, created};
+ghost use Rattle.port.specs.PortEvents.{unsynced, sent, freshControl, freshParts, freshPort, completed, noticed, becomes, raises, silent, refused, unchanged, flagNotice, restarts, flagSet, withFeature, withSetting, settingChanged, switchedOff, blankPort, started, event, flagged, peerGone, setTo, changedFeature, changedSetting, made, created};
 use crate::Answer;
 use crate::Control;
 use crate::Event;
@@ -248,7 +247,7 @@ pub fn refuse(why: Refusal, p: Port) -> Event
 }
 
 // An event that changes nothing at all.
-fn unchanged(p: Port) -> Event
+pub fn unchanged(p: Port) -> Event
     ensures { λ r. ⌜ r ≡ unchanged p ⌝ }
 {
     let none = silent();
@@ -398,29 +397,37 @@ fn set_feature(p: Port, f: Feature, s: Setting) -> Port
     fresh(with_feature(p, f, y))
 }
 
-fn blank() -> Port
-    ensures { λ r. ⌜ r ≡ blankPort ⌝ }
+// A feature where no port has been made, with these parameters.
+fn blank_state(f: Feature, o: &[u8]) -> State
+    ensures { λ r. ⌜ r ≡ fresh 0 (settingOf f switchedOff (now (o .entry))) ⌝ }
 {
-    let none = Setting {
+    let off = Switches {
         advertise: false,
         enable: false,
         willing: false,
-        desired: Parameters {
-            length: 0,
-            octets: [0; 96],
-        },
     };
-    let x = feature::steps::fresh_at(1, 0, none);
+    feature::steps::fresh_at(1, 0, feature::steps::setting_of(f, off, o))
+}
+
+// What stands where no port has been made: stopped, versions 0, nothing advertised, and a setting that asks for nothing.
+pub fn blank() -> Port
+    ensures { λ r. ⌜ r ≡ blankPort ⌝ }
+{
+    let one_group = [0, 0, 0, 0, 100, 0, 0, 0, 0, 0, 0, 0, 0];
+    let no_flow = [0; 2];
     let c = fresh_control(0);
+    let g = blank_state(Feature::Groups, &one_group);
+    let w = blank_state(Feature::Flow, &no_flow);
+    let a = blank_state(Feature::Applications, octets::first(&no_flow, 0));
     Port {
         admin: false,
         receive: false,
         transmit: false,
         several: false,
         control: c,
-        groups: x,
-        flow: x,
-        applications: x,
+        groups: g,
+        flow: w,
+        applications: a,
     }
 }
 
@@ -517,28 +524,24 @@ pub fn change_setting(p: Port, number: u8, w: Switches, o: &[u8]) -> Event
     refuse(Refusal::UnknownFeature, p)
 }
 
-fn no_port() -> Event
-    ensures { λ r. ⌜ r ≡ refused InvalidSetting blankPort ⌝ }
-{
-    refuse(Refusal::InvalidSetting, blank())
-}
-
-// The port of three settings that are valid.
-fn make(v: Versions, g: Setting, w: Setting, a: Setting) -> Event
-    ensures { λ r. ⌜ r ≡ made (started v g w a) ⌝ }
+// The port of three settings that are valid, in the place of another.
+fn make(p: Port, v: Versions, g: Setting, w: Setting, a: Setting) -> Event
+    ensures { λ r. ⌜ r ≡ made p (started v g w a) ⌝ }
 {
     let port = start(v, g, w, a);
+    let differs = crate::writing::asks(p, port);
     let none = silent();
     Event {
-        answer: Answer::Done(true),
+        answer: Answer::Done(differs),
         port: port,
         notices: none,
     }
 }
 
-// Creates a port: the switches and the parameters, as octets, of priority groups, flow control and applications. An
-// invalid setting is refused, and makes a blank port that stands for none (01, Refusal numbers).
+// Creates a port in the place of another: the switches and the parameters, as octets, of priority groups, flow control and
+// applications. An invalid setting is refused, and leaves the other (01, Refusal numbers).
 pub fn create(
+    p: Port,
     v: Versions,
     g: Switches,
     gp: &[u8],
@@ -547,19 +550,19 @@ pub fn create(
     a: Switches,
     ap: &[u8],
 ) -> Event
-    ensures { λ r. ⌜ r ≡ created v (three g w a) (three (now (gp .entry)) (now (wp .entry)) (now (ap .entry))) ⌝ }
+    ensures { λ r. ⌜ r ≡ created v (three g w a) (three (now (gp .entry)) (now (wp .entry)) (now (ap .entry))) p ⌝ }
 {
     if !parameters::valid_local(Feature::Groups, gp) {
-        return no_port();
+        return refuse(Refusal::InvalidSetting, p);
     }
     if !parameters::valid_local(Feature::Flow, wp) {
-        return no_port();
+        return refuse(Refusal::InvalidSetting, p);
     }
     if !parameters::valid_local(Feature::Applications, ap) {
-        return no_port();
+        return refuse(Refusal::InvalidSetting, p);
     }
     let x = feature::steps::setting_of(Feature::Groups, g, gp);
     let y = feature::steps::setting_of(Feature::Flow, w, wp);
     let z = feature::steps::setting_of(Feature::Applications, a, ap);
-    make(v, x, y, z)
+    make(p, v, x, y, z)
 }

@@ -74,8 +74,8 @@ pub fn unread_setting(out: &mut [u8], at: usize, line: u64) -> usize {
     forms::put(out, at, b"bad settings: line #: cannot be read\n", &numbers)
 }
 
-// `bad settings: line N: refused with 9`
-pub fn refused_setting(out: &mut [u8], at: usize, line: u64) -> usize {
-    let numbers = [line];
-    forms::put(out, at, b"bad settings: line #: refused with 9\n", &numbers)
+// `bad settings: line N: refused with R`
+pub fn refused_setting(out: &mut [u8], at: usize, line: u64, refusal: u8) -> usize {
+    let numbers = [line, refusal as u64];
+    forms::put(out, at, b"bad settings: line #: refused with #\n", &numbers)
 }

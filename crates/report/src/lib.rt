@@ -8,6 +8,7 @@ ghost use Rattle.report.specs.Put.{Put, Numbered, glyph, hexText};
 pub mod answers;
 pub mod configurations;
 pub mod forms;
+pub mod ports;
 pub mod states;
 
 // Puts a text at `at`.

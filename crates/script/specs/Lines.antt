@@ -20,12 +20,30 @@ use Rattle.script.specs.declared.Keyword.the-variants as Keyword
 use Rattle.script.specs.declared.Kind.{Kind}
 use Rattle.script.specs.declared.Kind.the-variants as Kind
 use Rattle.script.specs.declared.Line.{Line}
+use Rattle.script.specs.declared.PortWord.{PortWord}
 use Rattle.script.specs.Text.{words, first, others, number, isOctets, octetsOf}
 use Rattle.script.specs.Forms.{oneField, valuesOf, parametersOf}
+use Rattle.script.specs.StepsLaws.{trimmed, rest}
 
 -- "A line that is empty or begins with # is passed over."
 unfoldable pub passedOver : List ℕ → Bool
 passedOver s = length s is 0 || at s 0 is 35
+
+-- ---- the port that a line may begin with
+
+-- "its first word is a number, 0 to 255"; a line that is too long to be read has none
+unfoldable pub portNumber : List ℕ → Number
+portNumber s = if 1100 below length s then Not else number 255 (first (words s))
+
+-- "Without a port, port 1 is meant."
+unfoldable pub portWord : Number → PortWord
+portWord Not = record { given = false; number = 1 }
+portWord (Is n) = record { given = true; number = n % 256 }
+
+-- what is read: "Spaces before and behind it do not count."
+unfoldable pub behindPort : Bool → List ℕ → List ℕ
+behindPort false s = s
+behindPort true s = trimmed (rest s)
 
 -- ---- what a line gives
 
@@ -85,6 +103,12 @@ settingLine p s =
     if 1100 below length s then unreadable
     else if same (first (words s)) (partName p) then settingOf p (others (words s))
     else unreadable
+
+-- a line behind the four of a port: "it begins the settings of another port if its first word, behind a port if it has one, is control"
+unfoldable pub beginsSettings : List ℕ → Bool
+beginsSettings s =
+    if 1100 below length s then false
+    else same (first (words (behindPort (portWord (portNumber s) .given) s))) (partName Part.Control)
 
 -- ---- events
 

@@ -24,12 +24,13 @@ use Rattle.script.specs.declared.Keyword.the-variants as Keyword
 use Rattle.script.specs.declared.Kind.{Kind}
 use Rattle.script.specs.declared.Kind.the-variants as Kind
 use Rattle.script.specs.declared.Line.{Line}
+use Rattle.script.specs.declared.PortWord.{PortWord}
 use Rattle.script.specs.Text.{words, first, others, number, listed, isOctets, octetsOf}
 use Rattle.script.specs.Forms.{oneField, fits, allDue, numbersFrom, noValues, counted, valuesOf, parameterCount, parameterAt, parametersOf}
-use Rattle.script.specs.Lines.{passedOver, filled, lineOf, bare, unreadable, settingKind, settingWith, feature, plain, partName, control, settingOf, settingLine, goneWord, takeWord, showWord, setWord, writeWord, adminWord, receiveWord, transmitWord, severalWord, flagWord, keyword, alone, flag, write, formOf, changeOf, eventOf, isFrame, eventLine}
-use Rattle.script.specs.StepsLaws.{firstWord, rest}
+use Rattle.script.specs.Lines.{passedOver, portNumber, portWord, behindPort, beginsSettings, filled, lineOf, bare, unreadable, settingKind, settingWith, feature, plain, partName, control, settingOf, settingLine, goneWord, takeWord, showWord, setWord, writeWord, adminWord, receiveWord, transmitWord, severalWord, flagWord, keyword, alone, flag, write, formOf, changeOf, eventOf, isFrame, eventLine}
+use Rattle.script.specs.StepsLaws.{trimmed, firstWord, rest}
 use Rattle.script.specs.TextLaws.{length-listed}
-use Rattle.script.specs.WordsLaws.{first-word, other-words}
+use Rattle.script.specs.WordsLaws.{words-trimmed, first-word, other-words}
 use Rattle.script.specs.ReadingLaws.{fits-most}
 
 -- ---- the first word
@@ -259,6 +260,50 @@ module _ (k : Keyword) (s : List ℕ) {l : Line} where
   pub event-other : k ≡ Keyword.Other → l ≡ unreadable → l ≡ eventOf k (words s)
   unfolding eventOf
   event-other e h = h ∙ rw e
+
+-- ---- the port in front
+
+module _ (s : List ℕ) where
+  pub port-long : 1100 < length s → Not ≡ portNumber s
+  unfolding portNumber
+  port-long h = simp (lt-ltb 1100 (length s) h)
+
+  pub port-first : {w : List ℕ} {n : Number} → length s ≤ 1100 → w ≡ firstWord s → n ≡ number 255 w → n ≡ portNumber s
+  unfolding portNumber
+  port-first h e k = k ∙ simp (le-ltb 1100 (length s) h, first-word s, e)
+
+module _ (s : List ℕ) {x : Number} where
+  pub port-none : x ≡ portNumber s → x ≡ Not → record { given = false; number = 1 } ≡ portWord (portNumber s)
+  unfolding portWord
+  port-none e h = rw (← e, h)
+
+  pub port-given : {n m : ℕ} → x ≡ portNumber s → x ≡ Is n → m ≡ n % 256 → record { given = true; number = m } ≡ portWord (portNumber s)
+  unfolding portWord
+  port-given e h k = rw (← e, h, k)
+
+module _ (given : Bool) (s : List ℕ) where
+  pub behind-given : {r t : List ℕ} → given ≡ true → r ≡ rest s → t ≡ trimmed r → t ≡ behindPort given s
+  unfolding behindPort
+  behind-given h e k = k ∙ rw (h, e)
+
+  pub behind-none : given ≡ false → s ≡ behindPort given s
+  unfolding behindPort
+  behind-none h = rw h
+
+-- the words behind the port are the other words of the line
+pub words-behind : (s : List ℕ) → words (behindPort true s) ≡ others (words s)
+unfolding behindPort
+words-behind s = words-trimmed (rest s) ∙ sym (other-words s)
+
+module _ (s : List ℕ) where
+  pub begins-long : 1100 < length s → false ≡ beginsSettings s
+  unfolding beginsSettings
+  begins-long h = simp (lt-ltb 1100 (length s) h)
+
+  pub begins-control : {p : PortWord} {t w : List ℕ} {b : Bool} → length s ≤ 1100 → p ≡ portWord (portNumber s) → t ≡ behindPort (p .given) s → w ≡ firstWord t
+      → b ≡ same w (partName Part.Control) → b ≡ beginsSettings s
+  unfolding beginsSettings
+  begins-control {p} {t} {w} h e g k m = m ∙ simp (le-ltb 1100 (length s) h, sym e, sym g, first-word t, sym k)
 
 -- ---- whole lines
 

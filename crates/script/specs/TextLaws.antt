@@ -16,7 +16,7 @@ use Rattle.octets.specs.Laws.{and-left}
 use Rattle.script.specs.declared.text.Number.the-variants.{Is, Not}
 use Rattle.script.specs.Text.{isDigit, decimalDigits, decimalFrom, decimal, isNumber, number, nibble, hexDigits, isOctets, pairAt, listed, octetsOf}
 use Rattle.script.specs.Lines.{filled}
-use Rattle.script.specs.StepsLaws.{run, firstWord, rest, Nibbles}
+use Rattle.script.specs.StepsLaws.{run, trimmed, firstWord, rest, Nibbles}
 
 -- ---- digits
 
@@ -287,14 +287,17 @@ joining {w} {v} {i} r h m e = e ∙ rw (r .value (2 * i) (omega arith), r .value
 
 -- ---- steps along a line
 
-module _ (s : List ℕ) {n m : ℕ} {t r : List ℕ} where
-  pub word-found : n ≡ run true s → t ≡ drop n s → m ≡ run false t → r ≡ take m t → r ≡ firstWord s
-  unfolding firstWord
-  word-found a b c d = d ∙ rw (c, b, a)
+pub trim-found : (s : List ℕ) {m : ℕ} {t : List ℕ} → m ≡ run true s → t ≡ drop m s → t ≡ trimmed s
+trim-found s a b = b ∙ rw a
 
-  pub behind-found : n ≡ run true s → t ≡ drop n s → m ≡ run false t → r ≡ drop m t → r ≡ rest s
+module _ (s : List ℕ) {m : ℕ} {t r : List ℕ} where
+  pub word-found : t ≡ trimmed s → m ≡ run false t → r ≡ take m t → r ≡ firstWord s
+  unfolding firstWord
+  word-found a b c = c ∙ rw (b, a)
+
+  pub behind-found : t ≡ trimmed s → m ≡ run false t → r ≡ drop m t → r ≡ rest s
   unfolding rest
-  behind-found a b c d = d ∙ rw (c, b, a)
+  behind-found a b c = c ∙ rw (b, a)
 
 pub pair-read : (w : List ℕ) (i : ℕ) {x y h l : ℕ} → x ≡ at w (2 * i) → h ≡ nibble x → y ≡ at w (2 * i + 1) → l ≡ nibble y → h % 16 * 16 + l % 16 ≡ pairAt w i
 unfolding pairAt

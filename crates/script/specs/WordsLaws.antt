@@ -10,7 +10,7 @@ use lib.Seq.{append-snoc}
 use borrow.Author.Tests.{ne-eqb}
 use Rattle.octets.specs.Words.{_is_}
 use Rattle.script.specs.Text.{ended, wordsFrom, words, first, others}
-use Rattle.script.specs.StepsLaws.{run, firstWord, rest}
+use Rattle.script.specs.StepsLaws.{run, trimmed, firstWord, rest}
 
 -- a word that has begun goes on to the next space
 begun : (w s : List ℕ) → wordsFrom w s ≡ ended (w ++ take (run false s) s) (words (drop (run false s) s))
@@ -31,6 +31,16 @@ words-are (c ∷ s) = here (c is 32) refl (words-are s)
     here : (t : Bool) → c is 32 ≡ t → words s ≡ ended (firstWord s) (words (rest s)) → words (c ∷ s) ≡ ended (firstWord (c ∷ s)) (words (rest (c ∷ s)))
     here true e h = simp e h
     here false e h = simp e (begun (c ∷ []) s)
+
+-- spaces in front do not count
+pub words-trimmed : (s : List ℕ) → words (trimmed s) ≡ words s
+unfolding wordsFrom ended run
+words-trimmed [] = refl
+words-trimmed (c ∷ s) = here (c is 32) refl (words-trimmed s)
+  where
+    here : (t : Bool) → c is 32 ≡ t → words (trimmed s) ≡ words s → words (trimmed (c ∷ s)) ≡ words (c ∷ s)
+    here true e h = simp e h
+    here false e h = simp e
 
 pub words-over : (s : List ℕ) → length (firstWord s) ≡ 0 → words s ≡ []
 unfolding wordsFrom ended run firstWord

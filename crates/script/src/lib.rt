@@ -3,7 +3,7 @@ ghost use mathlib.Core.Path.{_≡_};
 ghost use lib.ListN.{length, drop};
 ghost use Rattle.octets.specs.Octets.{same};
 ghost use Rattle.script.specs.Text.{words, first, octetsOf};
-ghost use Rattle.script.specs.Lines.{passedOver, filled, bare, settingKind, feature, plain, control, partName, settingOf, settingLine, keyword, flagWord, alone, flag, write, formOf, changeOf, eventOf, isFrame, eventLine};
+ghost use Rattle.script.specs.Lines.{portWord, portNumber, behindPort, beginsSettings, passedOver, filled, bare, settingKind, feature, plain, control, partName, settingOf, settingLine, keyword, flagWord, alone, flag, write, formOf, changeOf, eventOf, isFrame, eventLine};
 use forms::Field;
 use forms::Form;
 use text::Number;
@@ -36,6 +36,12 @@ pub enum Keyword {
     Write,
     Flag(Flag),
     Other,
+}
+
+// The port of a line: `given` says that the line begins with one. Without one, port 1 is meant.
+pub struct PortWord {
+    pub given: bool,
+    pub number: u8,
 }
 
 // What a line says. `number` is MAX in a line of the settings, and the feature's number in an event.
@@ -74,6 +80,42 @@ pub fn is_passed_over(line: &[u8]) -> bool
         return true;
     }
     octets::octet(line, 0) == 35
+}
+
+// The port that a line begins with: its first word, where that is a number up to 255.
+fn port_number(line: &[u8]) -> Number
+    ensures { λ r. ⌜ r ≡ portNumber (now (line .entry)) ⌝ }
+{
+    if LONGEST < line.len() {
+        return Number::Not;
+    }
+    text::read_number(text::word(line), 255)
+}
+
+// The port that a line names, or means.
+pub fn port_of(line: &[u8]) -> PortWord
+    ensures { λ r. ⌜ r ≡ portWord (portNumber (now (line .entry))) ⌝ }
+{
+    match port_number(line) {
+        Number::Not => PortWord {
+            given: false,
+            number: 1,
+        },
+        Number::Is(n) => PortWord {
+            given: true,
+            number: forms::low(n),
+        },
+    }
+}
+
+// What a line says at its port: all of it where no port is given.
+pub fn behind_port(line: &[u8], given: bool) -> &[u8]
+    ensures { λ r. ⌜ now r ≡ behindPort given (now (line .entry)) ⌝ }
+{
+    if given {
+        return text::trim(text::behind(line));
+    }
+    line
 }
 
 // A line without octets.
@@ -197,6 +239,17 @@ pub fn parse_setting(due: Part, line: &[u8]) -> Line
         return bare(Kind::Unreadable);
     }
     setting_of(due, text::behind(line))
+}
+
+// Whether a line, which may be an event, begins the settings of a port.
+pub fn begins_settings(line: &[u8]) -> bool
+    ensures { λ r. ⌜ r ≡ beginsSettings (now (line .entry)) ⌝ }
+{
+    if LONGEST < line.len() {
+        return false;
+    }
+    let w = port_of(line);
+    is_part(Part::Control, text::word(behind_port(line, w.given)))
 }
 
 fn keyword_of(w: &[u8]) -> Keyword

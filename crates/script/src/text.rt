@@ -3,7 +3,7 @@ ghost use mathlib.Core.Path.{_≡_};
 ghost use Prim.Native.Nat.{_+_, _*_, _/_, _%_, _<_, min};
 ghost use lib.ListN.{length};
 ghost use Rattle.script.specs.Text.{isDigit, number, nibble, hexDigits, pairAt, octetsOf, isOctets};
-ghost use Rattle.script.specs.StepsLaws.{run, firstWord, rest, Nibbles};
+ghost use Rattle.script.specs.StepsLaws.{run, trimmed, firstWord, rest, Nibbles};
 ghost use Rattle.script.specs.Lines.{filled};
 
 const SPACE: u8 = 32;
@@ -29,11 +29,18 @@ fn run(s: &[u8], spaces: bool) -> usize
     i
 }
 
+// What stands behind the spaces in front.
+pub fn trim(s: &[u8]) -> &[u8]
+    ensures { λ r. ⌜ now r ≡ trimmed (now (s .entry)) ⌝ }
+{
+    octets::from(s, run(s, true))
+}
+
 // The first word; none where there are only spaces.
 pub fn word(s: &[u8]) -> &[u8]
     ensures { λ r. ⌜ now r ≡ firstWord (now (s .entry)) ⌝ }
 {
-    let t = octets::from(s, run(s, true));
+    let t = trim(s);
     octets::first(t, run(t, false))
 }
 
@@ -41,7 +48,7 @@ pub fn word(s: &[u8]) -> &[u8]
 pub fn behind(s: &[u8]) -> &[u8]
     ensures { λ r. ⌜ now r ≡ rest (now (s .entry)) ⌝ }
 {
-    let t = octets::from(s, run(s, true));
+    let t = trim(s);
     octets::from(t, run(t, false))
 }
 

@@ -1,8 +1,9 @@
--- 01, Refusal numbers: the table. The order of its cases is the order of the numbers.
+-- 01, Refusal numbers: the table, and 02, E10: "ports are 1 to 4, and any other number gives refusal 16". The order of its cases is the
+-- order of the numbers.
 use Prim.Native.Nat.{ℕ}
 use mathlib.Core.List.{List, []}
 use Rattle.tlv.specs.declared.Refusal.{Refusal}
-use Rattle.tlv.specs.declared.Refusal.the-variants.{NotRunning, SeveralNeighbours, NotDcbx, WrongLength, PastEnd, NoControl, ControlLength, ControlVersion, InvalidSetting, ShortOutput, UnknownFeature, NoNotice}
+use Rattle.tlv.specs.declared.Refusal.the-variants.{NotRunning, SeveralNeighbours, NotDcbx, WrongLength, PastEnd, NoControl, ControlLength, ControlVersion, InvalidSetting, ShortOutput, UnknownFeature, NoNotice, NoPort}
 
 unfoldable pub refusalNumber : Refusal → ℕ
 refusalNumber NotRunning = 1
@@ -17,6 +18,7 @@ refusalNumber InvalidSetting = 9
 refusalNumber ShortOutput = 10
 refusalNumber UnknownFeature = 11
 refusalNumber NoNotice = 12
+refusalNumber NoPort = 16
 
 -- An answer in document 01's numbers: 0 and the values that stand beside it, or the number of a refusal: "A refusal returns its number
 -- alone".

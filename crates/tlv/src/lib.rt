@@ -42,6 +42,7 @@ pub enum Refusal {
     ShortOutput,
     UnknownFeature,
     NoNotice,
+    NoPort,
 }
 
 // What stands at a place of the TLV.
@@ -122,6 +123,7 @@ pub fn refusal_number(r: Refusal) -> u8
         Refusal::ShortOutput => 10,
         Refusal::UnknownFeature => 11,
         Refusal::NoNotice => 12,
+        Refusal::NoPort => 16,
     }
 }
 

@@ -1,7 +1,12 @@
-// Work to be timed. Frames of one size stand one behind the other; each is read or handled in turn, so many times in all.
+// Work to be timed. Frames of one size stand one behind the other; each is read or handled in turn, so many times in all: at
+// ports 1 to 4 of a recorder in turn, or at one port with a log of its own.
 use crate::steps;
 use port::Answer;
+use port::Event;
+use port::Port;
 use port::Written;
+use recorder::Change;
+use recorder::Recorder;
 use tlv::Found;
 use tlv::Reading;
 
@@ -43,8 +48,9 @@ fn seen(f: Reading) -> u64 {
 }
 
 // Something of an answer.
-fn told(x: Answer) -> u64 {
-    match x {
+fn told(e: Event) -> u64 {
+    let answer = e.answer;
+    match answer {
         Answer::Done(wish) => {
             return wish as u64;
         }
@@ -79,7 +85,29 @@ pub extern "C" fn trial_read_many(frames: &[u8], size: usize, times: usize) -> u
     sum
 }
 
-// At the card of a creation step.
+// The port of a creation step, whatever number it has.
+fn made(creation: &[u8]) -> Port {
+    let e = steps::create(1, port::events::blank(), octets::from(creation, 2));
+    e.port
+}
+
+// A recorder whose four ports are all of the creation step.
+fn made_four(creation: &[u8]) -> Recorder {
+    let port = made(creation);
+    Recorder {
+        ports: [port; 4],
+        log: notices::empty(),
+    }
+}
+
+// The port behind port `n`; behind the last comes the first.
+fn port_behind(n: u8) -> u8 {
+    if n < 4 {
+        return n + 1;
+    }
+    1
+}
+
 #[no_mangle]
 pub extern "C" fn trial_handle_many(
     creation: &[u8],
@@ -87,16 +115,47 @@ pub extern "C" fn trial_handle_many(
     size: usize,
     times: usize,
 ) -> u64 {
-    let made = steps::create(creation);
-    let mut card = made.card;
+    let mut held = made_four(creation);
+    let mut n: u8 = 1;
     let mut sum: u64 = 0;
     let mut at: usize = 0;
     let mut left = times;
     while 0 < left {
-        let h = card::handle(card, frame_at(frames, at, size));
-        let answer = h.answer;
-        card = h.card;
-        sum = std::num::wrapping_add_u64(sum, told(answer));
+        let i = recorder::place_of(n);
+        let e = recorder::apply(n, held.ports[i], Change::Frame, frame_at(frames, at, size));
+        let port = e.port;
+        held.ports[i] = port;
+        if !recorder::is_silent(e.notices) {
+            let log = recorder::keep(held.log, n, e.notices);
+            held.log = log;
+        }
+        sum = std::num::wrapping_add_u64(sum, told(e));
+        at = place_behind(frames.len(), at, size);
+        n = port_behind(n);
+        left -= 1;
+    }
+    sum
+}
+
+#[no_mangle]
+pub extern "C" fn trial_handle_alone(
+    creation: &[u8],
+    frames: &[u8],
+    size: usize,
+    times: usize,
+) -> u64 {
+    let mut port = made(creation);
+    let mut log = notices::empty();
+    let mut sum: u64 = 0;
+    let mut at: usize = 0;
+    let mut left = times;
+    while 0 < left {
+        let e = recorder::apply(1, port, Change::Frame, frame_at(frames, at, size));
+        port = e.port;
+        if !recorder::is_silent(e.notices) {
+            log = recorder::keep(log, 1, e.notices);
+        }
+        sum = std::num::wrapping_add_u64(sum, told(e));
         at = place_behind(frames.len(), at, size);
         left -= 1;
     }
@@ -105,11 +164,27 @@ pub extern "C" fn trial_handle_many(
 
 #[no_mangle]
 pub extern "C" fn trial_write_many(creation: &[u8], times: usize, out: &mut [u8]) -> u64 {
-    let made = steps::create(creation);
+    let held = made_four(creation);
+    let mut n: u8 = 1;
     let mut sum: u64 = 0;
     let mut left = times;
     while 0 < left {
-        let w = card::write(made.card, out);
+        let i = recorder::place_of(n);
+        let w = recorder::write(n, held.ports[i], out);
+        sum = std::num::wrapping_add_u64(sum, wrote(w, out));
+        n = port_behind(n);
+        left -= 1;
+    }
+    sum
+}
+
+#[no_mangle]
+pub extern "C" fn trial_write_alone(creation: &[u8], times: usize, out: &mut [u8]) -> u64 {
+    let port = made(creation);
+    let mut sum: u64 = 0;
+    let mut left = times;
+    while 0 < left {
+        let w = recorder::write(1, port, out);
         sum = std::num::wrapping_add_u64(sum, wrote(w, out));
         left -= 1;
     }

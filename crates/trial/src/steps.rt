@@ -1,26 +1,27 @@
 // The steps of a script.
 use crate::place;
 use crate::state;
-use card::Card;
-use card::Handled;
-use card::Taken;
-use card::Took;
 use feature::State;
 use feature::Switches;
 use notices::Log;
 use port::Answer;
 use port::Control;
+use port::Event;
 use port::Flag;
 use port::Notices;
 use port::Port;
 use port::Versions;
 use port::Written;
+use recorder::Change;
+use recorder::Recorder;
+use recorder::Taken;
+use recorder::Took;
 use tlv::Refusal;
 
-// A card, once one was `made`, and the place of the output.
-pub struct Trial {
-    pub made: bool,
-    pub card: Card,
+// What a step leaves: the port at hand, the log, and the place of the output.
+pub struct Left {
+    pub port: Port,
+    pub log: Log,
     pub at: usize,
 }
 
@@ -35,10 +36,27 @@ struct Told {
     raised: [u8; 4],
 }
 
-// What a step that lends no output gives: what is told of it, and the card behind it.
+// What a step that lends no output gives: what is told of it, and the port and the log behind it.
 struct Given {
     told: Told,
-    card: Card,
+    port: Port,
+    log: Log,
+}
+
+// ---- what stands in a step
+
+pub fn port_of(step: &[u8]) -> u8 {
+    octets::octet(step, 1)
+}
+
+// Whether the states of all four ports are asked for.
+pub fn is_look(step: &[u8]) -> bool {
+    octets::octet(step, 0) == 9
+}
+
+// Whether a number is one of the four ports'.
+fn is_port(n: u8) -> bool {
+    (1 <= n) & (n <= 4)
 }
 
 // The switches of an octet.
@@ -50,11 +68,11 @@ fn switches(x: u8) -> Switches {
     }
 }
 
-fn versions(step: &[u8]) -> Versions {
-    let control = octets::octet(step, 1);
-    let groups = octets::octet(step, 2);
-    let flow = octets::octet(step, 4);
-    let applications = octets::octet(step, 6);
+fn versions(body: &[u8]) -> Versions {
+    let control = octets::octet(body, 0);
+    let groups = octets::octet(body, 1);
+    let flow = octets::octet(body, 3);
+    let applications = octets::octet(body, 5);
     Versions {
         control: control,
         groups: groups,
@@ -63,34 +81,40 @@ fn versions(step: &[u8]) -> Versions {
     }
 }
 
-// The parameters are handed on as parts of the step.
-pub fn create(step: &[u8]) -> Handled {
-    let groups = place::number2(step, 8);
-    let flow = place::number2(step, 10);
-    let all = octets::from(step, 12);
-    let behind = octets::from(all, groups);
-    card::create(
-        versions(step),
-        switches(octets::octet(step, 3)),
-        octets::first(all, groups),
-        switches(octets::octet(step, 5)),
-        octets::first(behind, flow),
-        switches(octets::octet(step, 7)),
-        octets::from(behind, flow),
-    )
-}
-
-// A trial before its first creation; its card is the blank of a refused one.
-pub fn nothing_yet() -> Trial {
-    let none = [0; 1];
-    let h = create(&none);
-    let card = h.card;
-    Trial {
-        made: false,
-        card: card,
-        at: 0,
+fn flag(number: u8) -> Flag {
+    match number {
+        0 => Flag::Admin,
+        1 => Flag::Receive,
+        2 => Flag::Transmit,
+        _ => Flag::Several,
     }
 }
+
+// A frame, a peer that is gone, a flag or a setting change.
+fn change_of(kind: u8, body: &[u8]) -> Change {
+    let first = octets::octet(body, 0);
+    let second = octets::octet(body, 1);
+    if kind == 1 {
+        return Change::Frame;
+    }
+    if kind == 2 {
+        return Change::PeerGone;
+    }
+    if kind == 3 {
+        return Change::Flag(flag(first), second == 1);
+    }
+    Change::Setting(first, switches(second))
+}
+
+// The octets of a frame, or the parameters of a setting.
+fn octets_of(kind: u8, body: &[u8]) -> &[u8] {
+    if kind == 4 {
+        return octets::from(body, 2);
+    }
+    body
+}
+
+// ---- what is told
 
 fn refused(why: Refusal) -> Told {
     let number = tlv::refusal_number(why);
@@ -127,28 +151,6 @@ fn raised(n: Notices) -> [u8; 4] {
     [of_port, of_groups, of_flow, of_applications]
 }
 
-fn put_told(out: &mut [u8], at: usize, x: Told) -> usize {
-    let octets = [
-        x.refusal,
-        x.wish as u8,
-        (x.length / 256 % 256) as u8,
-        (x.length % 256) as u8,
-        x.notice,
-        x.feature,
-    ];
-    let behind = place::put_all(out, at, &octets);
-    place::put_all(out, behind, &x.raised)
-}
-
-// Writes what is told, then the state of the card, once one was made.
-fn tell(out: &mut [u8], at: usize, told: Told, made: bool, card: Card) -> usize {
-    let behind = put_told(out, at, told);
-    if made {
-        return state::put(out, behind, card);
-    }
-    behind
-}
-
 fn answered(x: Answer, n: Notices) -> Told {
     match x {
         Answer::Done(wish) => {
@@ -178,35 +180,85 @@ fn wrote(x: Written) -> Told {
     }
 }
 
-fn flag(number: u8) -> Flag {
-    match number {
-        0 => Flag::Admin,
-        1 => Flag::Receive,
-        2 => Flag::Transmit,
-        _ => Flag::Several,
+fn put_told(out: &mut [u8], at: usize, x: Told) -> usize {
+    let octets = [
+        x.refusal,
+        x.wish as u8,
+        (x.length / 256 % 256) as u8,
+        (x.length % 256) as u8,
+        x.notice,
+        x.feature,
+    ];
+    let behind = place::put_all(out, at, &octets);
+    place::put_all(out, behind, &x.raised)
+}
+
+// Writes the state of port `n`, which is `p`, or nothing where the number is no port's.
+fn put_state(out: &mut [u8], at: usize, n: u8, p: Port) -> usize {
+    if is_port(n) {
+        return state::put_port(out, at, p);
+    }
+    at
+}
+
+// Writes what is told, then the state of the port, then the log.
+fn tell(out: &mut [u8], at: usize, told: Told, n: u8, p: Port, l: Log) -> usize {
+    let port = put_told(out, at, told);
+    let log = put_state(out, port, n, p);
+    state::put_log(out, log, l)
+}
+
+// ---- events
+
+// Creates port `n` in the place of `p`. The parameters are handed on as parts of the step.
+pub fn create(n: u8, p: Port, body: &[u8]) -> Event {
+    let groups = place::number2(body, 7);
+    let flow = place::number2(body, 9);
+    let all = octets::from(body, 11);
+    let behind = octets::from(all, groups);
+    recorder::create(
+        n,
+        p,
+        versions(body),
+        switches(octets::octet(body, 2)),
+        octets::first(all, groups),
+        switches(octets::octet(body, 4)),
+        octets::first(behind, flow),
+        switches(octets::octet(body, 6)),
+        octets::from(behind, flow),
+    )
+}
+
+// A creation, or what may happen at a port.
+fn happen(n: u8, p: Port, kind: u8, body: &[u8]) -> Event {
+    if kind == 0 {
+        return create(n, p, body);
+    }
+    recorder::apply(n, p, change_of(kind, body), octets_of(kind, body))
+}
+
+fn given_event(n: u8, l: Log, e: Event) -> Given {
+    let answer = e.answer;
+    let notices = e.notices;
+    let port = e.port;
+    Given {
+        told: answered(answer, notices),
+        port: port,
+        log: recorder::keep(l, n, notices),
     }
 }
 
-fn change(c: Card, step: &[u8]) -> Handled {
-    let number = octets::octet(step, 1);
-    let w = switches(octets::octet(step, 2));
-    card::change_setting(c, number, w, octets::from(step, 3))
+fn given_taken(p: Port, t: Taken) -> Given {
+    let answer = t.answer;
+    let log = t.log;
+    Given {
+        told: took(answer),
+        port: p,
+        log: log,
+    }
 }
 
-// A frame, a peer that is gone, a flag or a setting change.
-fn handle(c: Card, kind: u8, step: &[u8]) -> Handled {
-    if kind == 1 {
-        return card::handle(c, octets::from(step, 1));
-    }
-    if kind == 2 {
-        return card::peer_gone(c);
-    }
-    if kind == 3 {
-        let on = octets::octet(step, 2) == 1;
-        return card::set_flag(c, flag(octets::octet(step, 1)), on);
-    }
-    change(c, step)
-}
+// ---- what is no event of document 01
 
 fn with_sequence(x: State, sequence: u32) -> State {
     let mut next = x;
@@ -214,131 +266,100 @@ fn with_sequence(x: State, sequence: u32) -> State {
     next
 }
 
-fn with_numbers(c: Control, step: &[u8]) -> Control {
+fn with_numbers(c: Control, body: &[u8]) -> Control {
     let mut next = c;
-    next.seq = octets::numbers::number4(step, 1);
-    next.ack = octets::numbers::number4(step, 5);
-    next.rcvd = octets::numbers::number4(step, 9);
+    next.seq = octets::numbers::number4(body, 0);
+    next.ack = octets::numbers::number4(body, 4);
+    next.rcvd = octets::numbers::number4(body, 8);
     next
 }
 
 // The numbers of control and of the features are set.
-fn numbers(p: Port, step: &[u8]) -> Port {
+fn numbers(p: Port, body: &[u8]) -> Port {
     let mut next = p;
-    next.control = with_numbers(p.control, step);
-    next.groups = with_sequence(p.groups, octets::numbers::number4(step, 13));
-    next.flow = with_sequence(p.flow, octets::numbers::number4(step, 17));
-    next.applications = with_sequence(p.applications, octets::numbers::number4(step, 21));
+    next.control = with_numbers(p.control, body);
+    next.groups = with_sequence(p.groups, octets::numbers::number4(body, 12));
+    next.flow = with_sequence(p.flow, octets::numbers::number4(body, 16));
+    next.applications = with_sequence(p.applications, octets::numbers::number4(body, 20));
     next
 }
 
-// The dropped count is set.
-fn dropped(l: Log, count: u32) -> Log {
+// The dropped count of port `n` is set.
+fn dropped(l: Log, n: u8, count: u32) -> Log {
+    let i = recorder::place_of(n);
     let mut next = l;
-    next.dropped = count;
+    next.dropped[i] = count;
     next
 }
 
-// What is no event of document 01.
-fn set(c: Card, kind: u8, step: &[u8]) -> Card {
-    let mut next = c;
-    if kind == 7 {
-        next.port = numbers(c.port, step);
-        return next;
-    }
-    next.log = dropped(c.log, octets::numbers::number4(step, 1));
-    next
-}
-
-fn given_handled(h: Handled) -> Given {
-    let answer = h.answer;
-    let notices = h.raised;
-    let card = h.card;
-    Given {
-        told: answered(answer, notices),
-        card: card,
-    }
-}
-
-fn given_taken(t: Taken) -> Given {
-    let answer = t.answer;
-    let card = t.card;
-    Given {
-        told: took(answer),
-        card: card,
-    }
-}
-
-fn given_set(c: Card) -> Given {
-    Given {
+fn given_set(n: u8, p: Port, l: Log, kind: u8, body: &[u8]) -> Given {
+    let mut g = Given {
         told: done(false, 0, 0, 0),
-        card: c,
+        port: p,
+        log: l,
+    };
+    if !is_port(n) {
+        return g;
     }
+    if kind == 7 {
+        g.port = numbers(p, body);
+        return g;
+    }
+    g.log = dropped(l, n, octets::numbers::number4(body, 0));
+    g
 }
 
-// Every step that lends no output and creates no card.
-fn event(c: Card, kind: u8, step: &[u8]) -> Given {
+// ---- steps
+
+// Every step that lends no output and leaves the other ports alone.
+fn event(n: u8, p: Port, l: Log, kind: u8, body: &[u8]) -> Given {
     if kind < 5 {
-        return given_handled(handle(c, kind, step));
+        return given_event(n, l, happen(n, p, kind, body));
     }
     if kind == 6 {
-        return given_taken(card::take(c));
+        return given_taken(p, recorder::take(n, l));
     }
-    given_set(set(c, kind, step))
-}
-
-fn is_done(x: Answer) -> bool {
-    match x {
-        Answer::Done(_) => true,
-        Answer::Refused(_) => false,
-    }
-}
-
-fn created(t: Trial, step: &[u8], out: &mut [u8]) -> Trial {
-    let h = create(step);
-    let answer = h.answer;
-    let notices = h.raised;
-    let card = h.card;
-    let mut next = t;
-    if is_done(answer) {
-        next.made = true;
-        next.card = card;
-    }
-    next.at = tell(out, t.at, answered(answer, notices), next.made, next.card);
-    next
+    given_set(n, p, l, kind, body)
 }
 
 // The lent output is the next `room` octets of `out`, as they are.
-fn write(t: Trial, room: usize, out: &mut [u8]) -> Trial {
-    let at = t.at;
+fn write(n: u8, p: Port, l: Log, room: usize, at: usize, out: &mut [u8]) -> usize {
     if out.len() < at {
-        return t;
+        return at;
     }
     let end = place::part_end(out.len(), at, room);
-    let w = card::write(t.card, &mut out[at..end]);
-    let mut next = t;
-    next.at = tell(out, end, wrote(w), t.made, t.card);
-    next
+    let w = recorder::write(n, p, &mut out[at..end]);
+    tell(out, end, wrote(w), n, p, l)
 }
 
-fn changed(t: Trial, kind: u8, step: &[u8], out: &mut [u8]) -> Trial {
-    let e = event(t.card, kind, step);
-    let card = e.card;
-    Trial {
-        made: t.made,
-        card: card,
-        at: tell(out, t.at, e.told, t.made, e.card),
-    }
-}
-
-// Runs one step and writes what it gives.
-pub fn run(t: Trial, step: &[u8], out: &mut [u8]) -> Trial {
+// Runs one step at the port that it names, which is `p`, and writes what it gives.
+pub fn run(p: Port, l: Log, step: &[u8], at: usize, out: &mut [u8]) -> Left {
     let kind = octets::octet(step, 0);
-    if kind == 0 {
-        return created(t, step, out);
-    }
+    let n = port_of(step);
+    let body = octets::from(step, 2);
     if kind == 5 {
-        return write(t, place::number2(step, 1), out);
+        return Left {
+            port: p,
+            log: l,
+            at: write(n, p, l, place::number2(body, 0), at, out),
+        };
     }
-    changed(t, kind, step, out)
+    let g = event(n, p, l, kind, body);
+    let port = g.port;
+    let log = g.log;
+    Left {
+        port: port,
+        log: log,
+        at: tell(out, at, g.told, n, g.port, g.log),
+    }
+}
+
+// Writes that nothing happened, the states of all four ports and the log.
+pub fn look(r: Recorder, at: usize, out: &mut [u8]) -> usize {
+    let one = put_told(out, at, done(false, 0, 0, 0));
+    let two = state::put_port(out, one, r.ports[0]);
+    let three = state::put_port(out, two, r.ports[1]);
+    let four = state::put_port(out, three, r.ports[2]);
+    let log = state::put_port(out, four, r.ports[3]);
+    state::put_log(out, log, r.log)
 }

@@ -12,7 +12,22 @@ mod foreign {
             size: usize,
             times: usize,
         ) -> u64;
+        pub fn trial_handle_alone(
+            creation: *const u8,
+            creation_length: usize,
+            frames: *const u8,
+            length: usize,
+            size: usize,
+            times: usize,
+        ) -> u64;
         pub fn trial_write_many(
+            creation: *const u8,
+            creation_length: usize,
+            times: usize,
+            out: *mut u8,
+            room: usize,
+        ) -> u64;
+        pub fn trial_write_alone(
             creation: *const u8,
             creation_length: usize,
             times: usize,
@@ -37,7 +52,7 @@ pub fn read_many(frames: &[u8], size: usize, times: usize) -> u64 {
     unsafe { foreign::trial_read_many(frames.as_ptr(), frames.len(), size, times) }
 }
 
-/// Handles frames of one size in turn at the card of a creation step.
+/// Handles frames of one size in turn, at ports 1, 2, 3, 4 in turn, all made by a creation step.
 pub fn handle_many(creation: &[u8], frames: &[u8], size: usize, times: usize) -> u64 {
     // SAFETY: as above.
     unsafe {
@@ -52,11 +67,40 @@ pub fn handle_many(creation: &[u8], frames: &[u8], size: usize, times: usize) ->
     }
 }
 
-/// Writes the frame of a creation step's card, each time at another AckNo.
+/// The same at one port without three beside it.
+pub fn handle_alone(creation: &[u8], frames: &[u8], size: usize, times: usize) -> u64 {
+    // SAFETY: as above.
+    unsafe {
+        foreign::trial_handle_alone(
+            creation.as_ptr(),
+            creation.len(),
+            frames.as_ptr(),
+            frames.len(),
+            size,
+            times,
+        )
+    }
+}
+
+/// Writes the frames of ports 1, 2, 3, 4 in turn, all made by a creation step.
 pub fn write_many(creation: &[u8], times: usize, out: &mut [u8]) -> u64 {
     // SAFETY: as above.
     unsafe {
         foreign::trial_write_many(
+            creation.as_ptr(),
+            creation.len(),
+            times,
+            out.as_mut_ptr(),
+            out.len(),
+        )
+    }
+}
+
+/// The same of one port without three beside it.
+pub fn write_alone(creation: &[u8], times: usize, out: &mut [u8]) -> u64 {
+    // SAFETY: as above.
+    unsafe {
+        foreign::trial_write_alone(
             creation.as_ptr(),
             creation.len(),
             times,

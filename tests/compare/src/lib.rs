@@ -5,4 +5,4 @@ pub mod environment;
 pub mod script;
 pub mod words;
 
-pub use script::{Script, Step};
+pub use script::{Script, Step, What};

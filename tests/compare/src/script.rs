@@ -1,19 +1,64 @@
 //! Scripts for crates/trial: each step's octets, and what the reference says
 //! that it gives. crates/trial/src/lib.rt describes both.
 
-use reference::events::{Answer, Event, OwnedSetting, OwnedSettings};
-use reference::{Card, Flag, Notice};
+use reference::events::{Answer, Call, Event, OwnedSetting, OwnedSettings};
+use reference::{Flag, Notice, Port, Recorder};
 
 /// What every octet of the output holds before a run, and so what a write finds.
 pub use reference::events::FILL;
 
-/// An event, or a step that no event of document 01 is.
+/// A step at a port, whatever its number.
 #[derive(Clone, Debug, PartialEq, Eq)]
-pub enum Step {
+pub struct Step {
+    pub port: u8,
+    pub what: What,
+}
+
+/// An event, or what no event of document 01 is.
+#[derive(Clone, Debug, PartialEq, Eq)]
+pub enum What {
     Event(Event),
     /// SeqNo, AckNo, RcvdAckNo, and FeatureSeqNo of features 2, 3, 4.
     Numbers([u32; 6]),
     Dropped(u32),
+    /// Nothing happens, and the states of all four ports are written.
+    Look,
+}
+
+impl From<Call> for Step {
+    fn from(Call { port, event }: Call) -> Self {
+        Step { port, what: What::Event(event) }
+    }
+}
+
+impl Step {
+    /// Does the step at the reference.
+    pub fn apply(&self, recorder: &mut Recorder) -> Answer {
+        match &self.what {
+            What::Event(event) => {
+                return Call { port: self.port, event: event.clone() }.apply(recorder)
+            }
+            // At a number that is no port's nothing happens.
+            What::Numbers([seqno, ackno, rcvdackno, feature @ ..]) => {
+                let _ = recorder.set_numbers(self.port, *seqno, *ackno, *rcvdackno, *feature);
+            }
+            What::Dropped(count) => {
+                let _ = recorder.set_dropped(self.port, *count);
+            }
+            What::Look => {}
+        }
+        Answer::plain(Ok(false))
+    }
+
+    /// The state that is written behind the answer.
+    fn state(&self, recorder: &Recorder) -> Vec<u8> {
+        if self.what == What::Look {
+            return recorder.dump();
+        }
+        let mut state = recorder.port(self.port).map(Port::dump).unwrap_or_default();
+        state.extend(recorder.log().dump());
+        state
+    }
 }
 
 /// Steps with their octets and what is expected of them.
@@ -27,18 +72,17 @@ pub struct Script {
 }
 
 impl Script {
-    /// Adds a step, with the reference's answer and the card it left.
-    pub fn push(&mut self, step: Step, answer: &Answer, card: Option<&Card>) {
+    /// Adds a step, with the reference's answer and the recorder it left.
+    pub fn push(&mut self, step: Step, answer: &Answer, recorder: &Recorder) {
         put_step(&mut self.octets, &step);
         self.starts.push(self.expected.len());
         self.expected.extend(&answer.output);
         self.expected.extend([answer.refusal, u8::from(answer.wish)]);
         self.expected.extend((answer.length as u16).to_be_bytes());
-        self.expected.extend([answer.notice.0, answer.notice.1]);
+        let taken = answer.taken.unwrap_or_default();
+        self.expected.extend([taken.number, taken.feature]);
         self.expected.extend(raised_numbers(&answer.raised));
-        if let Some(card) = card {
-            self.expected.extend(card.dump());
-        }
+        self.expected.extend(step.state(recorder));
         self.steps.push(step);
     }
 
@@ -71,8 +115,8 @@ fn switches(setting: &OwnedSetting) -> u8 {
 }
 
 /// A creation step without its length.
-pub fn creation(settings: &OwnedSettings) -> Vec<u8> {
-    let mut octets = vec![0, settings.control_max];
+pub fn creation(port: u8, settings: &OwnedSettings) -> Vec<u8> {
+    let mut octets = vec![0, port, settings.control_max];
     for (max, setting) in &settings.feature {
         octets.extend([*max, switches(setting)]);
     }
@@ -87,46 +131,34 @@ pub fn creation(settings: &OwnedSettings) -> Vec<u8> {
 
 /// Adds a step behind its length.
 pub fn put_step(octets: &mut Vec<u8>, step: &Step) {
-    let start = octets.len();
-    octets.extend([0, 0]);
-    put_content(octets, step);
-    let length = (octets.len() - start - 2) as u16;
-    octets[start..start + 2].copy_from_slice(&length.to_be_bytes());
+    let content = content(step);
+    octets.extend((content.len() as u16).to_be_bytes());
+    octets.extend(content);
 }
 
-fn put_content(octets: &mut Vec<u8>, step: &Step) {
-    match step {
-        Step::Event(Event::Create(settings)) => octets.extend(creation(settings)),
-        Step::Event(Event::Frame(frame)) => {
-            octets.push(1);
-            octets.extend(frame);
-        }
-        Step::Event(Event::PeerGone) => octets.push(2),
-        Step::Event(Event::SetFlag(flag, on)) => {
+/// Kind, port, and what belongs to it.
+fn content(step: &Step) -> Vec<u8> {
+    let with = |kind: u8, rest: &[u8]| [&[kind, step.port], rest].concat();
+    match &step.what {
+        What::Event(Event::Create(settings)) => creation(step.port, settings),
+        What::Event(Event::Frame(frame)) => with(1, frame),
+        What::Event(Event::PeerGone) => with(2, &[]),
+        What::Event(Event::SetFlag(flag, on)) => {
             let number = match flag {
                 Flag::Enabled => 0,
                 Flag::Receive => 1,
                 Flag::Transmit => 2,
                 Flag::SeveralNeighbours => 3,
             };
-            octets.extend([3, number, u8::from(*on)]);
+            with(3, &[number, u8::from(*on)])
         }
-        Step::Event(Event::Change { feature, setting }) => {
-            octets.extend([4, *feature, switches(setting)]);
-            octets.extend(&setting.parameters);
+        What::Event(Event::Change { feature, setting }) => {
+            with(4, &[&[*feature, switches(setting)], &setting.parameters[..]].concat())
         }
-        Step::Event(Event::Write(room)) => {
-            octets.push(5);
-            octets.extend((*room as u16).to_be_bytes());
-        }
-        Step::Event(Event::Take) => octets.push(6),
-        Step::Numbers(numbers) => {
-            octets.push(7);
-            octets.extend(numbers.iter().flat_map(|n| n.to_be_bytes()));
-        }
-        Step::Dropped(count) => {
-            octets.push(8);
-            octets.extend(count.to_be_bytes());
-        }
+        What::Event(Event::Write(room)) => with(5, &(*room as u16).to_be_bytes()),
+        What::Event(Event::Take) => with(6, &[]),
+        What::Numbers(numbers) => with(7, &numbers.map(u32::to_be_bytes).concat()),
+        What::Dropped(count) => with(8, &count.to_be_bytes()),
+        What::Look => with(9, &[]),
     }
 }

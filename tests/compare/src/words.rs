@@ -1,9 +1,9 @@
 //! A difference in words: the script as lines for `desk` (docs/FORMATS.md), and
 //! what each side has.
 
-use crate::script::{Script, Step};
+use crate::script::{Script, Step, What};
 use reference::events::{Event, OwnedSetting, OwnedSettings};
-use reference::Flag;
+use reference::{Flag, Recorder};
 use std::fmt::Write;
 
 pub fn hex(octets: &[u8]) -> String {
@@ -15,12 +15,12 @@ fn bits(setting: &OwnedSetting) -> String {
     format!("{} {} {}", bit(setting.advertise), bit(setting.enable), bit(setting.willing))
 }
 
-/// Valid settings as four lines. Their entries have OUI 00 1b 21.
-fn settings_lines(settings: &OwnedSettings) -> String {
+/// Valid settings of a port as four lines. Their entries have OUI 00 1b 21.
+fn settings_lines(port: u8, settings: &OwnedSettings) -> String {
     let [(groups_max, groups), (flow_max, flow), (applications_max, applications)] =
         &settings.feature;
-    let mut text = format!("control {}\n", settings.control_max);
-    write!(text, "groups {groups_max} {}", bits(groups)).unwrap();
+    let mut text = format!("{port} control {}\n", settings.control_max);
+    write!(text, "{port} groups {groups_max} {}", bits(groups)).unwrap();
     let parameters = &groups.parameters;
     for octet in &parameters[..4] {
         write!(text, " {} {}", octet >> 4, octet & 15).unwrap();
@@ -30,13 +30,13 @@ fn settings_lines(settings: &OwnedSettings) -> String {
     }
     writeln!(
         text,
-        "\nflow {flow_max} {} {:02x} {}",
+        "\n{port} flow {flow_max} {} {:02x} {}",
         bits(flow),
         flow.parameters[0],
         flow.parameters[1]
     )
     .unwrap();
-    write!(text, "applications {applications_max} {}", bits(applications)).unwrap();
+    write!(text, "{port} applications {applications_max} {}", bits(applications)).unwrap();
     for entry in applications.parameters.chunks(6) {
         let (selector, id, map) = (entry[2] & 3, &entry[..2], entry[5]);
         write!(text, " {selector} {} {map:02x}", hex(id)).unwrap();
@@ -45,12 +45,14 @@ fn settings_lines(settings: &OwnedSettings) -> String {
 }
 
 /// The line of an event. What a desk's line cannot say stands behind `#`.
-fn event_line(event: &Event) -> String {
+fn event_line(port: u8, event: &Event) -> String {
     match event {
-        Event::Create(settings) => format!("# a creation in its place: {settings:?}"),
-        Event::Frame(octets) if octets.len() > 513 => format!("# too long: B {}", hex(octets)),
-        Event::Frame(octets) => format!("B {}", hex(octets)),
-        Event::PeerGone => "gone".into(),
+        Event::Create(settings) => format!("# a creation at port {port}: {settings:?}"),
+        Event::Frame(octets) if octets.len() > 513 => {
+            format!("# too long: {port} B {}", hex(octets))
+        }
+        Event::Frame(octets) => format!("{port} B {}", hex(octets)),
+        Event::PeerGone => format!("{port} gone"),
         Event::SetFlag(flag, on) => {
             let name = match flag {
                 Flag::Enabled => "admin",
@@ -58,41 +60,61 @@ fn event_line(event: &Event) -> String {
                 Flag::Transmit => "transmit",
                 Flag::SeveralNeighbours => "several",
             };
-            format!("{name} {}", u8::from(*on))
+            format!("{port} {name} {}", u8::from(*on))
         }
         Event::Change { feature, setting } => {
             let long = setting.parameters.len() > 507;
             let said = if long { "# too long: " } else { "" };
             let parameters = hex(&setting.parameters);
-            format!("{said}set {feature} {} {parameters}", bits(setting))
+            format!("{said}{port} set {feature} {} {parameters}", bits(setting))
         }
-        Event::Write(room) => format!("write {room}"),
-        Event::Take => "take".into(),
+        Event::Write(room) => format!("{port} write {room}"),
+        Event::Take => format!("{port} take"),
     }
 }
 
 fn step_line(step: &Step) -> String {
-    match step {
-        Step::Event(event) => event_line(event),
-        Step::Numbers([seqno, ackno, rcvdackno, groups, flow, applications]) => format!(
-            "# no event: SeqNo {seqno}, AckNo {ackno}, RcvdAckNo {rcvdackno}, \
+    let port = step.port;
+    match &step.what {
+        What::Event(event) => event_line(port, event),
+        What::Numbers([seqno, ackno, rcvdackno, groups, flow, applications]) => format!(
+            "# no event, port {port}: SeqNo {seqno}, AckNo {ackno}, RcvdAckNo {rcvdackno}, \
              FeatureSeqNo {groups}, {flow}, {applications}"
         ),
-        Step::Dropped(count) => format!("# no event: dropped {count}"),
+        What::Dropped(count) => format!("# no event, port {port}: dropped {count}"),
+        What::Look => "# no event: all four ports are looked at".into(),
     }
 }
 
-/// The steps up to one, as an input of `desk`. The first is an accepted creation.
+/// The settings with which a step makes a port, if it is not refused.
+fn made(step: &Step) -> Option<&OwnedSettings> {
+    match &step.what {
+        What::Event(Event::Create(settings)) => {
+            let made = Recorder::blank().create(step.port, &settings.lend());
+            made.is_ok().then_some(settings)
+        }
+        _ => None,
+    }
+}
+
+/// The steps up to one, as an input of `desk`: the creations before all else are its settings.
 pub fn desk_lines(steps: &[Step]) -> String {
     let mut text = String::new();
+    let mut settings = Vec::new();
     for (i, step) in steps.iter().enumerate() {
-        match step {
-            Step::Event(Event::Create(settings)) if i == 0 => text += &settings_lines(settings),
-            step => text += &step_line(step),
+        match made(step) {
+            Some(made) if settings.len() == i && !settings.contains(&step.port) => {
+                settings.push(step.port);
+                text += &settings_lines(step.port, made);
+            }
+            _ => text += &step_line(step),
         }
         text.push('\n');
     }
-    text + "show\n"
+    for port in 1..=4 {
+        writeln!(text, "{port} show").unwrap();
+    }
+    text
 }
 
 /// Takes names for the octets of a step's answer and state, one after the other.
@@ -118,15 +140,16 @@ impl<'a> Named<'a> {
         self.take(name, length);
     }
 
-    fn state(&mut self) {
+    /// One port, its names behind `of`.
+    fn port(&mut self, of: &str) {
         for (name, size) in [("Oper", 1), ("Max", 1), ("SeqNo", 4), ("AckNo", 4)] {
-            self.take(name, size);
+            self.take(format!("{of}{name}"), size);
         }
-        self.take("RcvdAckNo", 4);
+        self.take(format!("{of}RcvdAckNo"), 4);
         for name in ["seen", "duplicate", "admin", "receive", "transmit", "several"] {
-            self.take(name, 1);
+            self.take(format!("{of}{name}"), 1);
         }
-        for feature in ["groups", "flow", "applications"] {
+        for feature in ["groups", "flow", "applications"].map(|name| format!("{of}{name}")) {
             for name in ["advertise", "enable", "willing"] {
                 self.take(format!("{feature} {name}"), 1);
             }
@@ -144,26 +167,38 @@ impl<'a> Named<'a> {
             }
             self.parameters(&format!("{feature} OperCfg"));
         }
+    }
+
+    fn log(&mut self) {
         let held = self.number("held");
-        for i in 0..held {
-            self.take(format!("notice {i}"), 2);
+        for port in 1..=4 {
+            self.take(format!("dropped at port {port}"), 4);
         }
-        self.take("dropped", 4);
+        for i in 0..held {
+            self.take(format!("notice {i}"), 3);
+        }
     }
 }
 
 /// The octets of one step by name: its answer, then the state.
 pub fn named<'a>(step: &Step, octets: &'a [u8]) -> Vec<(String, &'a [u8])> {
     let mut named = Named { rest: octets, parts: Vec::new() };
-    if let Step::Event(Event::Write(room)) = step {
-        named.take("output", *room);
+    if let What::Event(Event::Write(room)) = step.what {
+        named.take("output", room);
     }
-    for (name, size) in [("refusal", 1), ("send", 1), ("length", 2), ("notice", 2)] {
+    let answer = [("refusal", 1), ("send", 1), ("length", 2), ("notice taken", 2)];
+    for (name, size) in answer {
         named.take(name, size);
     }
-    if !named.rest.is_empty() {
-        named.state();
+    for of in ["the port", "groups", "flow", "applications"] {
+        named.take(format!("notice raised of {of}"), 1);
     }
+    match (&step.what, step.port) {
+        (What::Look, _) => (1..=4).for_each(|port| named.port(&format!("port {port}: "))),
+        (_, 1..=4) => named.port(""),
+        _ => {}
+    }
+    named.log();
     named.parts
 }
 

@@ -3,38 +3,78 @@
 //!
 //! COMPARE_SEED and COMPARE_EVENTS give another seed and another number of events.
 
-use compare::{engine, environment, script, words, Script, Step};
+use compare::{engine, environment, script, words, Script, Step, What};
 use reference::events::{assemble, Answer, Event, Generator, OwnedSetting, OwnedSettings};
 use reference::rng::XorShift;
-use reference::{Card, Notice, Reason};
+use reference::{Log, Notice, Port, Reason, Recorder};
 
 const SEED: u64 = 0x0dcb_0101;
 const EVENTS: u64 = 3_000_000;
+/// Steps of one script, each of which begins with a blank recorder.
+const STEPS: usize = 1_000;
 
 /// What has occurred.
 #[derive(Debug, Default)]
 struct Coverage {
-    refusals: [u32; 13],
+    /// 13 to 15 are not given yet.
+    refusals: [u32; 17],
     /// By feature, then by reason.
     became: [[u32; 10]; 3],
     notices: [u32; 11],
-    dropped: u32,
+    dropped_by: DroppedBy,
+    /// A dropped count that stayed at its end, by port.
+    dropped_stayed: [u32; 4],
     seqno_wrapped: u32,
     featureseqno_wrapped: u32,
-    dropped_stayed: u32,
+    looks: u32,
+}
+
+/// Whose write found the log full.
+#[derive(Debug, Default)]
+struct DroppedBy {
+    holding_none: u32,
+    holding_fewer: u32,
+    holding_15: u32,
+    holding_16: u32,
+    holding_more: u32,
+    /// Where several others held most, by the port that lost one.
+    tie: [u32; 4],
+}
+
+impl DroppedBy {
+    /// The first notice that a port wrote in an event.
+    fn note(&mut self, before: &Log, writer: u8) {
+        let Some(loser) = before.loser(writer) else {
+            return;
+        };
+        let count = match before.held(writer) {
+            0 => &mut self.holding_none,
+            1..=14 => &mut self.holding_fewer,
+            15 => &mut self.holding_15,
+            16 => &mut self.holding_16,
+            _ => &mut self.holding_more,
+        };
+        *count += 1;
+        let most = (1..=4).filter(|&port| before.held(port) == before.held(loser)).count();
+        if before.held(writer) < 16 && most > 1 {
+            self.tie[usize::from(loser) - 1] += 1;
+        }
+    }
+
+    fn all_occurred(&self) -> bool {
+        // Port 4 is never the lowest of several.
+        let tie = &self.tie[..3];
+        [self.holding_none, self.holding_fewer, self.holding_15, self.holding_16]
+            .iter()
+            .chain([&self.holding_more])
+            .chain(tie)
+            .all(|&count| count > 0)
+    }
 }
 
 impl Coverage {
-    /// What an event did that left the card in its place.
-    fn note(&mut self, before: &Card, after: &Card, raised: &[Notice]) {
-        let (was, is) = (before.log(), after.log());
-        for notice in raised {
-            self.notices[usize::from(notice.number)] += 1;
-        }
-        self.dropped += u32::from(is.dropped() != was.dropped());
-        if was.dropped() == u32::MAX && was.held() == 32 && is.held() == 32 {
-            self.dropped_stayed += u32::from(!was.notices().eq(is.notices()));
-        }
+    /// What an event did to its port.
+    fn note_port(&mut self, before: &Port, after: &Port) {
         if before.control().seqno == u32::MAX && after.control().seqno == 0 {
             self.seqno_wrapped += u32::from(after.control().rcvdackno == u32::MAX);
         }
@@ -48,20 +88,39 @@ impl Coverage {
         }
     }
 
+    /// What an event did to the log.
+    fn note_log(&mut self, before: &Log, raised: &[Notice]) {
+        for notice in raised {
+            self.notices[usize::from(notice.number)] += 1;
+        }
+        let Some(first) = raised.first() else {
+            return;
+        };
+        self.dropped_by.note(before, first.port);
+        if let Some(loser) = before.loser(first.port) {
+            let stayed = before.dropped(loser) == u32::MAX;
+            self.dropped_stayed[usize::from(loser) - 1] += u32::from(stayed);
+        }
+    }
+
     fn all_occurred(&self) {
-        assert!(self.refusals.iter().all(|&count| count > 0), "{self:#?}");
+        for (number, &count) in self.refusals.iter().enumerate() {
+            assert_eq!(count > 0, !(13..16).contains(&number), "{self:#?}");
+        }
         assert!(self.notices[2..].iter().all(|&count| count > 0), "{self:#?}");
         for reason in Reason::ALL {
             let each = self.became.map(|counts| counts[reason as usize]);
             assert!(each.iter().all(|&count| count > 0), "{reason:?} {self:#?}");
         }
-        let rare =
-            [self.dropped, self.seqno_wrapped, self.featureseqno_wrapped, self.dropped_stayed];
+        assert!(self.dropped_by.all_occurred(), "{self:#?}");
+        assert!(self.dropped_stayed.iter().all(|&count| count > 0), "{self:#?}");
+        let rare = [self.seqno_wrapped, self.featureseqno_wrapped, self.looks];
         assert!(rare.iter().all(|&count| count > 0), "{self:#?}");
     }
 }
 
-/// The generator's events, with numbers set now and then to where they wrap.
+/// The generator's events, with numbers set now and then to where they wrap, and
+/// looks at all four ports.
 struct Source {
     generator: Generator,
     rng: XorShift,
@@ -73,12 +132,22 @@ impl Source {
     }
 
     fn next(&mut self) -> (Step, Answer) {
-        // A stopped port holds the fresh state, whose numbers are fixed.
-        if self.generator.card().is_some_and(Card::running) && self.rng.below(150) == 0 {
-            return (self.jump(), Answer::plain(Ok(false)));
-        }
-        let (event, answer) = self.generator.step();
-        (Step::Event(event), answer)
+        let port = self.rng.below(6) as u8;
+        let what = match self.rng.below(600) {
+            0..=29 => What::Look,
+            30..=31 => What::Dropped(self.near(u32::MAX).max(1 << 31)),
+            // A stopped port holds the fresh state, whose numbers are fixed.
+            32..=35 if self.generator.recorder().port(port).is_ok_and(Port::running) => {
+                self.numbers()
+            }
+            _ => {
+                let (call, answer) = self.generator.step();
+                return (call.into(), answer);
+            }
+        };
+        let step = Step { port, what };
+        let answer = step.apply(self.generator.recorder_mut());
+        (step, answer)
     }
 
     /// A number at or beside `near`.
@@ -90,7 +159,7 @@ impl Source {
         }
     }
 
-    fn jump(&mut self) -> Step {
+    fn numbers(&mut self) -> What {
         let seqno = match self.rng.below(8) {
             0..=4 => u32::MAX,
             5 => u32::MAX - 1,
@@ -99,17 +168,8 @@ impl Source {
         };
         let ackno = self.near(u32::MAX);
         let rcvdackno = self.near(seqno);
-        let feature = [(); 3].map(|()| self.near(seqno));
-        let count = self.near(u32::MAX).max(1 << 31);
-        let dropped = self.rng.below(4) == 0;
-        let card = self.generator.card_mut().expect("a card");
-        if dropped {
-            card.set_dropped(count);
-            return Step::Dropped(count);
-        }
-        card.set_numbers(seqno, ackno, rcvdackno, feature);
-        let [groups, flow, applications] = feature;
-        Step::Numbers([seqno, ackno, rcvdackno, groups, flow, applications])
+        let [groups, flow, applications] = [(); 3].map(|()| self.near(seqno));
+        What::Numbers([seqno, ackno, rcvdackno, groups, flow, applications])
     }
 }
 
@@ -130,23 +190,24 @@ fn the_engines_agree() {
     let mut coverage = Coverage::default();
     let mut script = Script::default();
     let mut out = vec![0; 4 << 20];
-    let mut before: Option<Card> = None;
     for _ in 0..events {
-        let (step, answer) = source.next();
-        let after = source.generator.card();
-        let created = matches!(step, Step::Event(Event::Create(_))) && answer.refusal == 0;
-        // A script begins with an accepted creation.
-        if created && before.is_some() {
+        if script.steps.len() == STEPS {
             check(&script, &mut out);
             script.clear();
+            source.generator.start();
         }
+        let before = source.generator.recorder().clone();
+        let (step, answer) = source.next();
+        let after = source.generator.recorder();
         coverage.refusals[usize::from(answer.refusal)] += 1;
-        if let (Step::Event(_), Some(before), Some(after), false) = (&step, &before, after, created)
+        coverage.looks += u32::from(step.what == What::Look);
+        if let (What::Event(_), Ok(was), Ok(is)) =
+            (&step.what, before.port(step.port), after.port(step.port))
         {
-            coverage.note(before, after, &answer.raised);
+            coverage.note_port(was, is);
+            coverage.note_log(before.log(), &answer.raised);
         }
         script.push(step, &answer, after);
-        before = after.cloned();
     }
     check(&script, &mut out);
     println!("{coverage:?}");
@@ -175,33 +236,27 @@ fn seqno_wraps() {
     let acknowledging = |ackno: u32| {
         let mut control = vec![0; 6];
         control.extend(ackno.to_be_bytes());
-        Step::Event(Event::Frame(assemble(&[(1, control)])))
+        What::Event(Event::Frame(assemble(&[(1, control)])))
     };
-    let change = Step::Event(Event::Change { feature: 3, setting: setting(&[16, 8]) });
-    let mut card = None;
+    let change = What::Event(Event::Change { feature: 3, setting: setting(&[16, 8]) });
+    let port = 4;
+    let mut recorder = Recorder::blank();
     let mut script = Script::default();
-    let mut seqno_after = |step: Step| {
-        let answer = match &step {
-            Step::Event(event) => event.apply(&mut card),
-            Step::Numbers([seqno, ackno, rcvdackno, feature @ ..]) => {
-                let card = card.as_mut().expect("a card");
-                card.set_numbers(*seqno, *ackno, *rcvdackno, *feature);
-                Answer::plain(Ok(false))
-            }
-            Step::Dropped(_) => unreachable!(),
-        };
-        script.push(step, &answer, card.as_ref());
-        let card = card.as_ref().expect("a card");
-        (card.control().seqno, card.flow().featureseqno, card.flow().syncd)
+    let mut seqno_after = |what: What| {
+        let step = Step { port, what };
+        let answer = step.apply(&mut recorder);
+        script.push(step, &answer, &recorder);
+        let state = recorder.port(port).expect("a port");
+        (state.control().seqno, state.flow().featureseqno, state.flow().syncd)
     };
     let last = u32::MAX;
-    assert_eq!(seqno_after(Step::Event(Event::Create(settings))), (1, 1, false));
+    assert_eq!(seqno_after(What::Event(Event::Create(settings))), (1, 1, false));
     assert_eq!(seqno_after(acknowledging(1)), (1, 1, true));
-    let numbers = Step::Numbers([last, 0, last - 1, 1, 1, 1]);
+    let numbers = What::Numbers([last, 0, last - 1, 1, 1, 1]);
     assert_eq!(seqno_after(numbers), (last, 1, true));
     assert_eq!(seqno_after(change), (last, 0, false));
     assert_eq!(seqno_after(acknowledging(last)), (0, 0, false));
-    assert_eq!(seqno_after(Step::Event(Event::Write(57))), (0, 0, false));
+    assert_eq!(seqno_after(What::Event(Event::Write(57))), (0, 0, false));
     assert_eq!(seqno_after(acknowledging(0)), (0, 0, true));
     check(&script, &mut [0; 1 << 14]);
 }

@@ -1,15 +1,18 @@
-//! Random events from a seed, for comparing engines.
+//! Random calls from a seed, for comparing engines: events at four ports, now
+//! and then at numbers that are no port's.
 //!
-//! The sequence depends on the seed alone: the generator keeps a card of its
-//! own, so that it knows which acknowledgements are right, and a second card
-//! as a simulated peer.
+//! The sequence depends on the seed alone: the generator keeps a recorder of its
+//! own, so that it knows which acknowledgements are right, and a second one whose
+//! ports are the simulated peers.
 
 use crate::layout::{
     self, APPLICATIONS, CONTROL, ENABLE, FLOW_CONTROL, MOST_ENTRIES, OUI, PRIORITY_GROUPS, SUBTYPE,
     TLV_TYPE, WILLING,
 };
 use crate::log::Notice;
-use crate::port::{Card, Flag};
+use crate::outcome::Reason;
+use crate::port::{Flag, Port};
+use crate::recorder::{Recorder, PORTS};
 use crate::rng::XorShift;
 use crate::settings::{Setting, Settings};
 
@@ -55,7 +58,7 @@ impl OwnedSettings {
 
 #[derive(Clone, Debug, PartialEq, Eq)]
 pub enum Event {
-    /// A new card in place of the old one, if not refused.
+    /// A new port in place of the old one, if not refused.
     Create(OwnedSettings),
     Frame(Vec<u8>),
     PeerGone,
@@ -67,6 +70,13 @@ pub enum Event {
     /// A write into an output of so many octets, each `FILL` before.
     Write(usize),
     Take,
+}
+
+/// An event at a port, whatever its number.
+#[derive(Clone, Debug, PartialEq, Eq)]
+pub struct Call {
+    pub port: u8,
+    pub event: Event,
 }
 
 /// What every octet of a lent output holds before a write.
@@ -81,8 +91,7 @@ pub struct Answer {
     pub wish: bool,
     /// Length of a written frame.
     pub length: usize,
-    /// Number and feature of a taken notice.
-    pub notice: (u8, u8),
+    pub taken: Option<Notice>,
     /// The whole lent output after a write.
     pub output: Vec<u8>,
     /// The notices that the event raised, in order.
@@ -96,50 +105,34 @@ impl Answer {
             refusal: result.err().unwrap_or(0),
             wish: result.unwrap_or(false),
             length: 0,
-            notice: (0, 0),
+            taken: None,
             output: Vec::new(),
             raised: Vec::new(),
         }
     }
 }
 
-impl Event {
-    /// Does the event at the card.
-    ///
-    /// # Panics
-    /// If there is no card and the event is not `Create`.
-    pub fn apply(&self, place: &mut Option<Card>) -> Answer {
-        if let Event::Create(settings) = self {
-            return match Card::create(&settings.lend()) {
-                Ok(card) => {
-                    *place = Some(card);
-                    Answer::plain(Ok(true))
-                }
-                Err(refusal) => Answer::plain(Err(refusal)),
-            };
-        }
-        let card = place.as_mut().expect("a card");
-        let before = card.log().written();
-        let answer = self.apply_to(card);
-        Answer { raised: card.log().since(before).collect(), ..answer }
+impl Call {
+    /// Does the event at the recorder.
+    pub fn apply(&self, recorder: &mut Recorder) -> Answer {
+        let before = recorder.log().written();
+        let answer = self.answer(recorder);
+        Answer { raised: recorder.log().since(before).collect(), ..answer }
     }
 
-    fn apply_to(&self, card: &mut Card) -> Answer {
-        match self {
-            Event::Create(_) => unreachable!(),
-            Event::Frame(octets) => Answer::plain(card.frame(octets)),
-            Event::PeerGone => Answer::plain(card.peer_gone()),
-            Event::SetFlag(flag, on) => Answer::plain(Ok(card.set_flag(*flag, *on))),
-            Event::Change { feature, setting: s } => Answer::plain(card.change(
-                *feature,
-                s.advertise,
-                s.enable,
-                s.willing,
-                &s.parameters,
-            )),
+    fn answer(&self, recorder: &mut Recorder) -> Answer {
+        let port = self.port;
+        match &self.event {
+            Event::Create(settings) => Answer::plain(recorder.create(port, &settings.lend())),
+            Event::Frame(octets) => Answer::plain(recorder.frame(port, octets)),
+            Event::PeerGone => Answer::plain(recorder.peer_gone(port)),
+            Event::SetFlag(flag, on) => Answer::plain(recorder.set_flag(port, *flag, *on)),
+            Event::Change { feature, setting } => {
+                Answer::plain(recorder.change(port, *feature, &setting.lend()))
+            }
             Event::Write(length) => {
                 let mut output = vec![FILL; *length];
-                let result = card.write(&mut output);
+                let result = recorder.write(port, &mut output);
                 Answer {
                     length: result.unwrap_or(0),
                     output,
@@ -147,8 +140,8 @@ impl Event {
                 }
             }
             Event::Take => {
-                let result = card.take();
-                Answer { notice: result.unwrap_or((0, 0)), ..Answer::plain(result.map(|_| false)) }
+                let result = recorder.take(port);
+                Answer { taken: result.ok(), ..Answer::plain(result.map(|_| false)) }
             }
         }
     }
@@ -464,82 +457,151 @@ fn set_length(frame: &mut [u8]) {
     }
 }
 
-/// Makes events without end.
+/// Numbers that are no port's.
+const NO_PORTS: [u8; 6] = [0, 5, 6, 127, 128, 255];
+
+fn is_port(number: u8) -> bool {
+    (1..=PORTS as u8).contains(&number)
+}
+
+/// How a port behaves for a while.
+#[derive(Clone, Copy, Debug)]
+struct Mood {
+    /// How often its notices are taken, in a hundred.
+    takes: u32,
+    /// How often its peer chatters, in a hundred.
+    chatter: u32,
+}
+
+impl Mood {
+    fn any(rng: &mut XorShift) -> Self {
+        Mood { takes: rng.pick(&[0, 0, 1, 5, 20, 60]), chatter: rng.pick(&[0, 0, 10, 50, 90]) }
+    }
+}
+
+/// Makes calls without end.
 #[derive(Clone, Debug)]
 pub struct Generator {
     rng: XorShift,
-    card: Option<Card>,
-    peer: Option<Card>,
-    /// Frames given before, for stale ones.
-    earlier: Vec<Vec<u8>>,
-    /// Events until the next card.
-    left: u32,
-    /// How often notices are taken, in a hundred.
-    takes: u32,
+    recorder: Recorder,
+    /// The peer of each port is the port of the same number.
+    peers: Recorder,
+    /// Frames given before to each port, for stale ones.
+    earlier: [Vec<Vec<u8>>; PORTS],
+    mood: [Mood; PORTS],
+    /// The port that has most calls, and for how many more.
+    busy: (u8, u32),
+    /// Ports that are to be made before anything else.
+    unmade: Vec<u8>,
 }
 
 impl Generator {
     pub fn new(seed: u64) -> Self {
-        Generator {
+        let mut generator = Generator {
             rng: XorShift::new(seed),
-            card: None,
-            peer: None,
-            earlier: Vec::new(),
-            left: 0,
-            takes: 0,
-        }
-    }
-
-    /// The generator's own card, after the last event.
-    pub fn card(&self) -> Option<&Card> {
-        self.card.as_ref()
-    }
-
-    /// For the wrap of numbers only: the same card, to be changed.
-    pub fn card_mut(&mut self) -> Option<&mut Card> {
-        self.card.as_mut()
-    }
-
-    /// The next event and the reference's answer to it.
-    pub fn step(&mut self) -> (Event, Answer) {
-        let event = match self.card.take() {
-            Some(card) if self.left > 0 => {
-                self.left -= 1;
-                let event = self.choose(&card);
-                self.card = Some(card);
-                event
-            }
-            card => {
-                self.card = card;
-                self.create()
-            }
+            recorder: Recorder::blank(),
+            peers: Recorder::blank(),
+            earlier: Default::default(),
+            mood: [Mood { takes: 0, chatter: 0 }; PORTS],
+            busy: (1, 0),
+            unmade: Vec::new(),
         };
-        let answer = event.apply(&mut self.card);
-        (event, answer)
+        generator.start();
+        generator
     }
 
-    fn create(&mut self) -> Event {
+    /// Begins again with a blank recorder. One to four of its ports are made first.
+    pub fn start(&mut self) {
         let rng = &mut self.rng;
-        let mut settings = random::settings(rng);
-        let peer = random::settings_near(rng, &settings);
-        if rng.percent(20) {
-            let feature = rng.below(3);
-            settings.feature[feature as usize].1.parameters =
-                random::invalid(rng, PRIORITY_GROUPS + feature as u8, true);
-            return Event::Create(settings);
+        self.recorder = Recorder::blank();
+        self.peers = Recorder::blank();
+        self.earlier = Default::default();
+        self.mood = [(); PORTS].map(|()| Mood::any(rng));
+        self.busy = (1, 0);
+        let first = rng.below(PORTS as u32) as u8;
+        let count = rng.pick(&[1, 2, 3, 4, 4, 4, 4]);
+        self.unmade = (0..count).map(|i| 1 + (first + i) % PORTS as u8).collect();
+    }
+
+    /// The generator's own recorder, after the last call.
+    pub fn recorder(&self) -> &Recorder {
+        &self.recorder
+    }
+
+    /// For the wrap of numbers only: the same recorder, to be changed.
+    pub fn recorder_mut(&mut self) -> &mut Recorder {
+        &mut self.recorder
+    }
+
+    /// The next call and the reference's answer to it.
+    pub fn step(&mut self) -> (Call, Answer) {
+        let call = self.call();
+        let answer = call.apply(&mut self.recorder);
+        (call, answer)
+    }
+
+    fn call(&mut self) -> Call {
+        if let Some(port) = self.unmade.pop() {
+            let settings = self.settings(port);
+            return Call { port, event: Event::Create(settings) };
         }
-        self.peer = Card::create(&peer.lend()).ok();
-        self.earlier.clear();
-        self.left = 20 + rng.below(400);
-        self.takes = rng.pick(&[0, 1, 5, 20]);
+        let port = self.next_port();
+        if self.rng.below(250) == 0 {
+            return Call { port, event: self.creation(port) };
+        }
+        // At a number that is no port's, something that would be good at a port.
+        let like = if is_port(port) { port } else { 1 + port % PORTS as u8 };
+        let state = self.recorder.ports()[usize::from(like) - 1].clone();
+        Call { port, event: self.choose(like, &state) }
+    }
+
+    fn next_port(&mut self) -> u8 {
+        let rng = &mut self.rng;
+        if rng.percent(2) {
+            return rng.pick(&NO_PORTS);
+        }
+        if self.busy.1 == 0 {
+            self.busy = (1 + rng.below(PORTS as u32) as u8, rng.pick(&[5, 20, 80, 200]));
+            self.mood[usize::from(self.busy.0) - 1] = Mood::any(rng);
+        }
+        self.busy.1 -= 1;
+        if rng.percent(75) {
+            self.busy.0
+        } else {
+            1 + rng.below(PORTS as u32) as u8
+        }
+    }
+
+    /// Valid settings for a port, whose peer begins anew with settings like them.
+    fn settings(&mut self, port: u8) -> OwnedSettings {
+        let settings = random::settings(&mut self.rng);
+        let peer = random::settings_near(&mut self.rng, &settings);
+        self.peers.create(port, &peer.lend()).expect("valid settings");
+        self.earlier[usize::from(port) - 1].clear();
+        settings
+    }
+
+    /// A creation, refused now and then; also where a port is in use.
+    fn creation(&mut self, port: u8) -> Event {
+        if is_port(port) && self.rng.percent(60) {
+            return Event::Create(self.settings(port));
+        }
+        let mut settings = random::settings(&mut self.rng);
+        if self.rng.percent(80) {
+            let feature = self.rng.below(3);
+            settings.feature[feature as usize].1.parameters =
+                random::invalid(&mut self.rng, PRIORITY_GROUPS + feature as u8, true);
+        }
         Event::Create(settings)
     }
 
-    fn choose(&mut self, card: &Card) -> Event {
+    /// Something for a port in this state.
+    fn choose(&mut self, port: u8, state: &Port) -> Event {
+        let mood = self.mood[usize::from(port) - 1];
         let rng = &mut self.rng;
-        let flags = card.flags();
+        let flags = state.flags();
         // Do not stay stopped or flagged for long.
-        if !card.running() && rng.percent(30) {
+        if !state.running() && rng.percent(30) {
             let off = [
                 (Flag::Enabled, flags.enabled),
                 (Flag::Receive, flags.receive),
@@ -551,12 +613,15 @@ impl Generator {
         if flags.several_neighbours && rng.percent(20) {
             return Event::SetFlag(Flag::SeveralNeighbours, false);
         }
-        if rng.percent(self.takes) {
+        if rng.percent(mood.takes) {
             return Event::Take;
         }
+        if rng.percent(mood.chatter) {
+            return self.chatter(state);
+        }
         match rng.below(100) {
-            0..=63 => Event::Frame(self.frame(card)),
-            64..=83 => self.change(card),
+            0..=63 => Event::Frame(self.frame(port, state)),
+            64..=83 => self.change(state),
             84..=93 => Event::Write(rng.below(201) as usize),
             94..=95 => Event::PeerGone,
             96 => Event::Take,
@@ -567,12 +632,35 @@ impl Generator {
         }
     }
 
-    fn change(&mut self, card: &Card) -> Event {
+    /// What mostly raises a notice: sub-TLVs that are absent and bad in turn, a peer
+    /// that is gone, a flag.
+    fn chatter(&mut self, state: &Port) -> Event {
+        let rng = &mut self.rng;
+        match rng.below(10) {
+            0 => Event::PeerGone,
+            1 => Event::SetFlag(Flag::Transmit, !state.flags().transmit),
+            _ => {
+                let control = *state.control();
+                let mut body = vec![control.max, control.max];
+                body.extend(control.ackno.to_be_bytes());
+                body.extend(control.seqno.to_be_bytes());
+                let mut list = vec![(CONTROL, body)];
+                for number in PRIORITY_GROUPS..=APPLICATIONS {
+                    if state.feature(number).reason == Reason::Absent && rng.percent(80) {
+                        list.push((number, Vec::new()));
+                    }
+                }
+                Event::Frame(assemble(&list))
+            }
+        }
+    }
+
+    fn change(&mut self, state: &Port) -> Event {
         let rng = &mut self.rng;
         let number =
             if rng.percent(5) { rng.pick(&[0, 1, 5, 6, 127, 255]) } else { 2 + rng.below(3) as u8 };
         let like = if (2..=4).contains(&number) { number } else { 2 };
-        let now = card.feature(like);
+        let now = state.feature(like);
         let mut setting = OwnedSetting {
             advertise: now.advertise,
             enable: now.enable,
@@ -612,61 +700,64 @@ impl Generator {
         Event::Change { feature: number, setting }
     }
 
-    fn frame(&mut self, card: &Card) -> Vec<u8> {
+    fn frame(&mut self, port: u8, state: &Port) -> Vec<u8> {
         let frame = match self.rng.below(100) {
-            0..=34 => self.peers_frame(card),
-            35..=74 => self.crafted(card),
-            75..=79 => self.stale(card),
-            80..=92 => self.damaged(card),
+            0..=34 => self.peers_frame(port, state),
+            35..=74 => self.crafted(state),
+            75..=79 => self.stale(port, state),
+            80..=92 => self.damaged(port, state),
             _ => self.hostile(),
         };
-        if self.earlier.len() < 8 {
-            self.earlier.push(frame.clone());
+        let earlier = &mut self.earlier[usize::from(port) - 1];
+        if earlier.len() < 8 {
+            earlier.push(frame.clone());
         } else {
             let place = self.rng.below(8) as usize;
-            self.earlier[place].clone_from(&frame);
+            earlier[place].clone_from(&frame);
         }
         frame
     }
 
-    /// A valid frame of the simulated peer, which often has just received ours.
-    fn peers_frame(&mut self, card: &Card) -> Vec<u8> {
-        let rng = &mut self.rng;
-        let Some(peer) = self.peer.as_mut() else {
-            return Vec::new();
-        };
+    /// A frame of the simulated peer, which often has just received ours.
+    fn peers_frame(&mut self, port: u8, state: &Port) -> Vec<u8> {
+        let (rng, peers) = (&mut self.rng, &mut self.peers);
         let mut octets = [0; layout::LONGEST_FRAME];
         if rng.percent(85) {
-            if let Ok(length) = card.write(&mut octets) {
+            if let Ok(length) = self.recorder.write(port, &mut octets) {
                 // A refusal is as good as a loss.
-                let _ = peer.frame(&octets[..length]);
+                let _ = peers.frame(port, &octets[..length]);
             }
         }
         match rng.below(100) {
             0..=3 => {
-                let _ = peer.peer_gone();
+                let _ = peers.peer_gone(port);
             }
             4..=11 => {
                 let feature = 2 + rng.below(3) as u8;
-                let like = card.feature(feature).parameters;
+                let like = state.feature(feature).parameters;
                 let parameters = random::near(rng, feature, &like, true);
-                let _ =
-                    peer.change(feature, rng.percent(90), rng.percent(85), rng.flip(), &parameters);
+                let setting = OwnedSetting {
+                    advertise: rng.percent(90),
+                    enable: rng.percent(85),
+                    willing: rng.flip(),
+                    parameters,
+                };
+                let _ = peers.change(port, feature, &setting.lend());
             }
             _ => {}
         }
-        match peer.write(&mut octets) {
+        match peers.write(port, &mut octets) {
             Ok(length) => octets[..length].to_vec(),
             Err(_) => Vec::new(),
         }
     }
 
-    fn stale(&mut self, card: &Card) -> Vec<u8> {
-        if self.earlier.is_empty() {
-            return self.crafted(card);
+    fn stale(&mut self, port: u8, state: &Port) -> Vec<u8> {
+        let earlier = &self.earlier[usize::from(port) - 1];
+        if earlier.is_empty() {
+            return self.crafted(state);
         }
-        let place = self.rng.below(self.earlier.len() as u32) as usize;
-        self.earlier[place].clone()
+        earlier[self.rng.below(earlier.len() as u32) as usize].clone()
     }
 
     /// Mostly what the version rules ask for, given our highest version.
@@ -684,8 +775,8 @@ impl Generator {
         (oper, theirs)
     }
 
-    fn control(&mut self, card: &Card) -> Vec<u8> {
-        let control = *card.control();
+    fn control(&mut self, state: &Port) -> Vec<u8> {
+        let control = *state.control();
         let (oper, max) = self.versions(control.max);
         let rng = &mut self.rng;
         let ackno = match rng.below(100) {
@@ -693,7 +784,7 @@ impl Generator {
             0..=59 => control.seqno,
             60..=74 => control.seqno.wrapping_sub(1),
             75..=84 => control.seqno.wrapping_add(1),
-            85..=94 => card.feature(2 + rng.below(3) as u8).featureseqno,
+            85..=94 => state.feature(2 + rng.below(3) as u8).featureseqno,
             _ => rng.next_u64() as u32,
         };
         let seqno = match rng.below(100) {
@@ -711,8 +802,8 @@ impl Generator {
         body
     }
 
-    fn feature(&mut self, card: &Card, number: u8) -> Vec<u8> {
-        let ours = card.feature(number);
+    fn feature(&mut self, state: &Port, number: u8) -> Vec<u8> {
+        let ours = state.feature(number);
         let (oper, max) = self.versions(ours.max);
         let rng = &mut self.rng;
         if rng.percent(4) {
@@ -752,18 +843,18 @@ impl Generator {
         }
     }
 
-    fn sub_tlvs(&mut self, card: &Card) -> Vec<(u8, Vec<u8>)> {
+    fn sub_tlvs(&mut self, state: &Port) -> Vec<(u8, Vec<u8>)> {
         let mut list = Vec::new();
         for _ in 0..self.times(3, 7) {
-            list.push((CONTROL, self.control(card)));
+            list.push((CONTROL, self.control(state)));
         }
         for number in PRIORITY_GROUPS..=APPLICATIONS {
             for _ in 0..self.times(7, 6) {
-                list.push((number, self.feature(card, number)));
+                list.push((number, self.feature(state, number)));
             }
             if self.rng.percent(4) {
                 // The same type under another SubType, beside the right one.
-                let mut other = self.feature(card, number);
+                let mut other = self.feature(state, number);
                 other.resize(other.len().max(4), 0);
                 other[3] = 1 + self.rng.below(255) as u8;
                 list.push((number, other));
@@ -784,13 +875,14 @@ impl Generator {
         list
     }
 
-    fn crafted(&mut self, card: &Card) -> Vec<u8> {
-        assemble(&self.sub_tlvs(card))
+    fn crafted(&mut self, state: &Port) -> Vec<u8> {
+        assemble(&self.sub_tlvs(state))
     }
 
     /// A good frame with one thing broken.
-    fn damaged(&mut self, card: &Card) -> Vec<u8> {
-        let mut frame = if self.rng.flip() { self.peers_frame(card) } else { self.crafted(card) };
+    fn damaged(&mut self, port: u8, state: &Port) -> Vec<u8> {
+        let mut frame =
+            if self.rng.flip() { self.peers_frame(port, state) } else { self.crafted(state) };
         if frame.len() < 6 {
             return frame;
         }
@@ -859,9 +951,9 @@ impl Generator {
 }
 
 impl Iterator for Generator {
-    type Item = Event;
+    type Item = Call;
 
-    fn next(&mut self) -> Option<Event> {
+    fn next(&mut self) -> Option<Call> {
         Some(self.step().0)
     }
 }

@@ -168,6 +168,8 @@ pub fn read(octets: &[u8]) -> Result<Frame<'_>, u8> {
 pub trait Parameters: Copy + PartialEq {
     /// Feature number, also the type of the sub-TLV.
     const FEATURE: u8;
+    /// What a port that was not made has: a setting that asks for nothing.
+    const NONE: Self;
     /// None for a wrong length or invalid values.
     fn read(octets: &[u8]) -> Option<Self>;
     /// What a local setting must hold beyond the layout rules.
@@ -188,6 +190,8 @@ pub struct Groups {
 
 impl Parameters for Groups {
     const FEATURE: u8 = PRIORITY_GROUPS;
+    const NONE: Self =
+        Groups { group: [0; 8], percentage: [100, 0, 0, 0, 0, 0, 0, 0], classes: 0 };
 
     #[inline]
     fn read(octets: &[u8]) -> Option<Self> {
@@ -236,6 +240,7 @@ pub struct FlowControl {
 
 impl Parameters for FlowControl {
     const FEATURE: u8 = FLOW_CONTROL;
+    const NONE: Self = FlowControl { mask: 0, classes: 0 };
 
     #[inline]
     fn read(octets: &[u8]) -> Option<Self> {
@@ -302,6 +307,8 @@ impl Eq for Applications {}
 
 impl Parameters for Applications {
     const FEATURE: u8 = APPLICATIONS;
+    const NONE: Self =
+        Applications { entry: [Entry { id: 0, selector: 0, map: 0 }; MOST_ENTRIES], count: 0 };
 
     #[inline]
     fn read(octets: &[u8]) -> Option<Self> {

@@ -1,6 +1,7 @@
-//! A reference engine for one DCBX 1.01 port, written from document 01 alone.
+//! A reference engine for four DCBX 1.01 ports with one log, written from
+//! documents 01 and 02 alone.
 //!
-//! The modules follow the sections of that document. The engine works in place
+//! The modules follow the sections of document 01. The engine works in place
 //! and allocates nothing; only `dump`, `View`, the event generator and the text
 //! forms of the programs do.
 
@@ -10,15 +11,18 @@ pub mod layout;
 pub mod log;
 pub mod outcome;
 pub mod port;
+pub mod recorder;
 pub mod refusal;
 pub mod rng;
 pub mod rounds;
 pub mod settings;
+pub mod setup;
 pub mod text;
 
 pub use dump::{PeerView, View};
 pub use layout::{Applications, Entry, FlowControl, Groups, Parameters};
 pub use log::{Log, Notice};
 pub use outcome::{Feature, Peer, Reason};
-pub use port::{Card, ControlState, Flag, Flags};
+pub use port::{ControlState, Flag, Flags, Port};
+pub use recorder::{Recorder, PORTS};
 pub use settings::{FeatureSetting, Setting, Settings};

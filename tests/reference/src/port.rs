@@ -4,7 +4,7 @@ use crate::layout::{
     self, Applications, Controls, FlowControl, Frame, Groups, Parameters, ReceivedControl,
     APPLICATIONS, CONTROL, CONTROL_LENGTH, FLOW_CONTROL, OUI, PRIORITY_GROUPS, SUBTYPE, TLV_TYPE,
 };
-use crate::log::{self, Log};
+use crate::log::{self, Writer};
 use crate::outcome::{Feature, Reason, Shown};
 use crate::refusal;
 use crate::settings::{FeatureSetting, Setting, Settings};
@@ -19,6 +19,20 @@ pub struct ControlState {
     pub rcvdackno: u32,
     pub peer_seen: bool,
     pub duplicate_control: bool,
+}
+
+impl ControlState {
+    fn fresh(max: u8) -> Self {
+        ControlState {
+            oper: max,
+            max,
+            seqno: 0,
+            ackno: 0,
+            rcvdackno: 0,
+            peer_seen: false,
+            duplicate_control: false,
+        }
+    }
 }
 
 /// The port's four flags.
@@ -43,15 +57,14 @@ impl Flag {
         [Flag::Enabled, Flag::Receive, Flag::Transmit, Flag::SeveralNeighbours];
 }
 
-/// The engine of one port.
+/// One port. Its notices go into the log that it is lent.
 #[derive(Clone, Debug)]
-pub struct Card {
+pub struct Port {
     control: ControlState,
     flags: Flags,
     groups: Feature<Groups>,
     flow: Feature<FlowControl>,
     applications: Feature<Applications>,
-    log: Log,
 }
 
 /// What of the written frame may change while the settings stay. Two of these
@@ -64,20 +77,28 @@ struct Written {
     shown: [Shown; 3],
 }
 
-impl Card {
-    /// A running port in its fresh state. Creation always asks for a send.
-    pub fn create(settings: &Settings) -> Result<Card, u8> {
-        let read = settings.read()?;
-        let mut card = Card {
-            control: ControlState {
-                oper: settings.control_max,
-                max: settings.control_max,
-                seqno: 0,
-                ackno: 0,
-                rcvdackno: 0,
-                peer_seen: false,
-                duplicate_control: false,
+impl Port {
+    /// A port that was not made yet: stopped, all flags off, nothing set.
+    pub(crate) fn blank() -> Self {
+        Port {
+            control: ControlState::fresh(0),
+            flags: Flags {
+                enabled: false,
+                receive: false,
+                transmit: false,
+                several_neighbours: false,
             },
+            groups: Feature::new(0, FeatureSetting::none()),
+            flow: Feature::new(0, FeatureSetting::none()),
+            applications: Feature::new(0, FeatureSetting::none()),
+        }
+    }
+
+    /// A running port in its fresh state.
+    pub(crate) fn create(settings: &Settings) -> Result<Self, u8> {
+        let read = settings.read()?;
+        let mut port = Port {
+            control: ControlState::fresh(settings.control_max),
             flags: Flags {
                 enabled: true,
                 receive: true,
@@ -87,14 +108,13 @@ impl Card {
             groups: Feature::new(settings.groups.0, read.groups),
             flow: Feature::new(settings.flow.0, read.flow),
             applications: Feature::new(settings.applications.0, read.applications),
-            log: Log::default(),
         };
-        card.fresh();
-        Ok(card)
+        port.fresh();
+        Ok(port)
     }
 
     /// A frame arrived. The answer says whether to send.
-    pub fn frame(&mut self, octets: &[u8]) -> Result<bool, u8> {
+    pub(crate) fn frame(&mut self, octets: &[u8], log: &mut Writer) -> Result<bool, u8> {
         if !self.running() {
             return Err(refusal::NOT_RUNNING);
         }
@@ -105,29 +125,29 @@ impl Card {
         let before = self.written();
         let reasons = self.reasons();
         match &frame.controls {
-            Controls::Several => self.control_twice(),
+            Controls::Several => self.control_twice(log),
             Controls::One(control) => self.one_control(control, &frame),
         }
         self.step_5(&before.shown);
-        self.feature_notices(reasons);
+        self.feature_notices(reasons, log);
         Ok(before != self.written())
     }
 
     /// Timer expired, shutdown, or an LLDPDU with no DCBX TLV.
-    pub fn peer_gone(&mut self) -> Result<bool, u8> {
+    pub(crate) fn peer_gone(&mut self, log: &mut Writer) -> Result<bool, u8> {
         if !self.running() {
             return Err(refusal::NOT_RUNNING);
         }
         let before = self.written();
         if self.control.peer_seen {
-            self.log.write(log::PEER_GONE, 0);
+            log.write(log::PEER_GONE, 0);
         }
         self.fresh();
         Ok(before != self.written())
     }
 
-    /// Sets one flag. Never refused; the answer says whether to send.
-    pub fn set_flag(&mut self, flag: Flag, on: bool) -> bool {
+    /// Sets one flag. The answer says whether to send.
+    pub(crate) fn set_flag(&mut self, flag: Flag, on: bool, log: &mut Writer) -> bool {
         let before = self.octets_to_be_written();
         let place = match flag {
             Flag::Enabled => &mut self.flags.enabled,
@@ -140,9 +160,9 @@ impl Card {
         }
         *place = on;
         match (flag, on) {
-            (Flag::SeveralNeighbours, true) => self.log.write(log::SEVERAL_NEIGHBOURS, 0),
-            (Flag::Transmit, false) => self.log.write(log::TRANSMIT_OFF, 0),
-            (Flag::Receive, false) => self.log.write(log::RECEIVE_OFF, 0),
+            (Flag::SeveralNeighbours, true) => log.write(log::SEVERAL_NEIGHBOURS, 0),
+            (Flag::Transmit, false) => log.write(log::TRANSMIT_OFF, 0),
+            (Flag::Receive, false) => log.write(log::RECEIVE_OFF, 0),
             _ => {}
         }
         let several_on = flag == Flag::SeveralNeighbours && on;
@@ -153,22 +173,19 @@ impl Card {
     }
 
     /// Changes one feature's setting. The answer says whether to send.
-    pub fn change(
+    pub(crate) fn change(
         &mut self,
         feature: u8,
-        advertise: bool,
-        enable: bool,
-        willing: bool,
-        parameters: &[u8],
+        setting: &Setting,
+        log: &mut Writer,
     ) -> Result<bool, u8> {
-        let setting = Setting { advertise, enable, willing, parameters };
         let running = self.running();
         let reasons = self.reasons();
         let seqno = self.control.seqno;
         let changed = match feature {
-            PRIORITY_GROUPS => change_one(&mut self.groups, &setting, running, seqno)?,
-            FLOW_CONTROL => change_one(&mut self.flow, &setting, running, seqno)?,
-            APPLICATIONS => change_one(&mut self.applications, &setting, running, seqno)?,
+            PRIORITY_GROUPS => change_one(&mut self.groups, setting, running, seqno)?,
+            FLOW_CONTROL => change_one(&mut self.flow, setting, running, seqno)?,
+            APPLICATIONS => change_one(&mut self.applications, setting, running, seqno)?,
             _ => return Err(refusal::NO_SUCH_FEATURE),
         };
         let Some(wish) = changed else {
@@ -176,13 +193,13 @@ impl Card {
         };
         if running {
             self.send_rule();
-            self.feature_notices(reasons);
+            self.feature_notices(reasons, log);
         }
         Ok(wish || seqno != self.control.seqno)
     }
 
     /// Writes the frame and gives its length. Changes only the frame's octets.
-    pub fn write(&self, out: &mut [u8]) -> Result<usize, u8> {
+    pub(crate) fn write(&self, out: &mut [u8]) -> Result<usize, u8> {
         if !self.running() {
             return Err(refusal::NOT_RUNNING);
         }
@@ -210,11 +227,6 @@ impl Card {
         Ok(length)
     }
 
-    /// Takes the oldest notice: its number and its feature.
-    pub fn take(&mut self) -> Result<(u8, u8), u8> {
-        self.log.take()
-    }
-
     pub fn running(&self) -> bool {
         self.flags.enabled && self.flags.receive && self.flags.transmit
     }
@@ -239,13 +251,13 @@ impl Card {
         &self.applications
     }
 
-    pub fn log(&self) -> &Log {
-        &self.log
-    }
-
-    /// For tests of the wrap only: sets the numbers directly. FeatureSeqNo in
-    /// the order of features 2, 3, 4; nothing else changes.
-    pub fn set_numbers(&mut self, seqno: u32, ackno: u32, rcvdackno: u32, featureseqno: [u32; 3]) {
+    pub(crate) fn set_numbers(
+        &mut self,
+        seqno: u32,
+        ackno: u32,
+        rcvdackno: u32,
+        featureseqno: [u32; 3],
+    ) {
         self.control.seqno = seqno;
         self.control.ackno = ackno;
         self.control.rcvdackno = rcvdackno;
@@ -253,24 +265,11 @@ impl Card {
             featureseqno;
     }
 
-    /// For tests of the wrap only: sets the dropped count.
-    pub fn set_dropped(&mut self, dropped: u32) {
-        self.log.set_dropped(dropped);
-    }
-
     /// The fresh state of the present settings, with the send rule if running.
-    /// Flags, highest versions and the log stay.
+    /// Flags and highest versions stay.
     fn fresh(&mut self) {
         let running = self.running();
-        self.control = ControlState {
-            oper: self.control.max,
-            max: self.control.max,
-            seqno: 0,
-            ackno: 0,
-            rcvdackno: 0,
-            peer_seen: false,
-            duplicate_control: false,
-        };
+        self.control = ControlState::fresh(self.control.max);
         self.groups.fresh(running);
         self.flow.fresh(running);
         self.applications.fresh(running);
@@ -287,11 +286,11 @@ impl Card {
     }
 
     /// Step 1. Numbers and versions stay.
-    fn control_twice(&mut self) {
+    fn control_twice(&mut self, log: &mut Writer) {
         self.control.peer_seen = true;
         if !self.control.duplicate_control {
             self.control.duplicate_control = true;
-            self.log.write(log::DUPLICATE_CONTROL, 0);
+            log.write(log::DUPLICATE_CONTROL, 0);
         }
         self.groups.control_twice();
         self.flow.control_twice();
@@ -333,11 +332,11 @@ impl Card {
     }
 
     /// A notice for each feature whose reason became one that has a notice.
-    fn feature_notices(&mut self, before: [Reason; 3]) {
+    fn feature_notices(&self, before: [Reason; 3], log: &mut Writer) {
         for (i, (before, after)) in before.into_iter().zip(self.reasons()).enumerate() {
             if before != after {
                 if let Some(number) = after.notice() {
-                    self.log.write(number, PRIORITY_GROUPS + i as u8);
+                    log.write(number, PRIORITY_GROUPS + i as u8);
                 }
             }
         }

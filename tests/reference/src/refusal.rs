@@ -22,5 +22,7 @@ pub const INVALID_SETTING: u8 = 9;
 pub const SHORT_OUTPUT: u8 = 10;
 /// Feature number not 2, 3 or 4.
 pub const NO_SUCH_FEATURE: u8 = 11;
-/// Taking a notice when none is held.
+/// Taking a notice when the port holds none.
 pub const NO_NOTICE: u8 = 12;
+/// The port number is not 1 to 4. Before all others.
+pub const NO_SUCH_PORT: u8 = 16;

@@ -2,13 +2,15 @@
 
 use crate::layout::{Parameters, LONGEST_FRAME};
 use crate::outcome::{Feature, Peer, Reason};
-use crate::port::Card;
+use crate::port::Port;
+use crate::recorder::Recorder;
 use crate::settings::FeatureSetting;
 
-/// Two ports that exchange frames.
+/// Two ports that exchange frames, each of a recorder of its own.
 #[derive(Clone, Debug)]
 pub struct Ends {
-    pub end: [Card; 2],
+    pub recorder: [Recorder; 2],
+    pub port: [u8; 2],
 }
 
 /// What happens in one round. Place 0 speaks of end 0, place 1 of end 1.
@@ -30,46 +32,62 @@ impl Round {
 }
 
 impl Ends {
-    pub fn new(a: Card, b: Card) -> Self {
-        Ends { end: [a, b] }
+    /// Each end is a recorder and the number of its port.
+    pub fn new(a: (Recorder, u8), b: (Recorder, u8)) -> Self {
+        Ends { recorder: [a.0, b.0], port: [a.1, b.1] }
+    }
+
+    /// The port of end 0 or 1.
+    pub fn end(&self, i: usize) -> &Port {
+        self.recorder[i].port(self.port[i]).expect("a port's number")
+    }
+
+    pub fn ends(&self) -> [&Port; 2] {
+        [self.end(0), self.end(1)]
     }
 
     /// Two writes, then two deliveries.
     pub fn round(&mut self) {
-        self.round_with(Round::whole(0), |_| {});
+        self.round_with(Round::whole(0), |_, _| {});
     }
 
-    /// A round with losses, and with `refused` called at both ends before,
-    /// between and after the calls. It must make refused calls only.
-    pub fn round_with(&mut self, round: Round, mut refused: impl FnMut(&mut Card)) {
-        let mut noise = |end: &mut [Card; 2]| end.iter_mut().for_each(&mut refused);
+    /// A round with losses, and with `between` called at both recorders, with the
+    /// number of the end's port, before, between and after the calls. At that port
+    /// it must make refused calls only.
+    pub fn round_with(&mut self, round: Round, mut between: impl FnMut(&mut Recorder, u8)) {
+        let mut noise =
+            |ends: &mut Self| (0..2).for_each(|i| between(&mut ends.recorder[i], ends.port[i]));
         let mut octets = [[0; LONGEST_FRAME]; 2];
         let mut length = [0; 2];
         for i in 0..2 {
-            noise(&mut self.end);
+            noise(self);
             if round.writes[i] {
-                length[i] = self.end[i].write(&mut octets[i]).expect("an accepted write");
+                let written = self.recorder[i].write(self.port[i], &mut octets[i]);
+                length[i] = written.expect("an accepted write");
             }
         }
         for to in [round.first, 1 - round.first] {
             let from = 1 - to;
-            noise(&mut self.end);
+            noise(self);
             if round.writes[from] && round.delivered[from] {
                 let frame = &octets[from][..length[from]];
-                self.end[to].frame(frame).expect("an accepted frame");
+                let handled = self.recorder[to].frame(self.port[to], frame);
+                handled.expect("an accepted frame");
             }
         }
-        noise(&mut self.end);
+        noise(self);
     }
 
     /// All that demand 3 speaks of holds at both ends.
     pub fn settled(&self) -> bool {
-        settled_end(&self.end[0], &self.end[1]) && settled_end(&self.end[1], &self.end[0])
+        let [a, b] = self.ends();
+        settled_end(a, b) && settled_end(b, a)
     }
 
     /// What each end holds of its peer is none or the peer's own.
     pub fn held_is_own(&self) -> bool {
-        held_end(&self.end[0], &self.end[1]) && held_end(&self.end[1], &self.end[0])
+        let [a, b] = self.ends();
+        held_end(a, b) && held_end(b, a)
     }
 }
 
@@ -152,7 +170,7 @@ fn as_expected<P: Parameters>(own: &Feature<P>, other: &Feature<P>) -> bool {
     own.syncd && held == expected
 }
 
-fn settled_end(own: &Card, other: &Card) -> bool {
+fn settled_end(own: &Port, other: &Port) -> bool {
     let control = own.control();
     control.rcvdackno == control.seqno
         && control.oper == control.max.min(other.control().max)
@@ -177,7 +195,7 @@ fn held_is_own<P: Parameters>(own: &Feature<P>, other: &Feature<P>) -> bool {
     peer && opercfg
 }
 
-fn held_end(own: &Card, other: &Card) -> bool {
+fn held_end(own: &Port, other: &Port) -> bool {
     held_is_own(own.groups(), other.groups())
         && held_is_own(own.flow(), other.flow())
         && held_is_own(own.applications(), other.applications())

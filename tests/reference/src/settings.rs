@@ -32,6 +32,11 @@ pub struct FeatureSetting<P> {
 }
 
 impl<P: Parameters> FeatureSetting<P> {
+    /// What a port that was not made has.
+    pub(crate) fn none() -> Self {
+        FeatureSetting { advertise: false, enable: false, willing: false, parameters: P::NONE }
+    }
+
     /// Reads and judges a local setting: refusal 9 if invalid. An entry that
     /// is not ours may not stand in a setting: nothing of one is left out.
     pub fn read(setting: &Setting) -> Result<Self, u8> {

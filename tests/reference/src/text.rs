@@ -1,10 +1,9 @@
 //! The text forms of docs/FORMATS.md, for the programs `desk` and `pair`.
 
-use crate::events::{OwnedSetting, OwnedSettings};
-use crate::layout::{Parameters, APPLICATIONS, FLOW_CONTROL, OUI, PRIORITY_GROUPS};
+use crate::events::OwnedSetting;
+use crate::layout::{APPLICATIONS, FLOW_CONTROL, OUI, PRIORITY_GROUPS};
 use crate::outcome::Reason;
-use crate::settings::FeatureSetting;
-use crate::{Applications, FlowControl, Groups, Notice};
+use crate::Notice;
 use std::io::{self, Read, Write};
 use std::ops::Range;
 
@@ -95,6 +94,9 @@ impl Text {
     }
 }
 
+/// The most octets of a line.
+const LONGEST_LINE: usize = 1100;
+
 /// Lines of an input. Before it waits for more, what is to be written is written.
 pub struct Lines<R, W> {
     input: R,
@@ -102,6 +104,8 @@ pub struct Lines<R, W> {
     buffer: Vec<u8>,
     /// What of the buffer was read and not yet handed out.
     unread: Range<usize>,
+    /// Where the line that was handed out last begins.
+    last: usize,
     ended: bool,
     /// How many lines were handed out or passed over.
     pub count: u32,
@@ -109,18 +113,29 @@ pub struct Lines<R, W> {
 
 impl<R: Read, W: Write> Lines<R, W> {
     pub fn new(input: R, output: W) -> Self {
-        Lines { input, output, buffer: vec![0; 1 << 16], unread: 0..0, ended: false, count: 0 }
+        let buffer = vec![0; 1 << 16];
+        Lines { input, output, buffer, unread: 0..0, last: 0, ended: false, count: 0 }
     }
 
-    /// The next line that is neither empty nor a comment, without its line feed.
-    pub fn next(&mut self, out: &mut Text) -> io::Result<Option<&[u8]>> {
+    /// The next line that is neither empty nor a comment, without its line feed,
+    /// and its number. In place of one that is too long, one that cannot be read either.
+    pub fn next(&mut self, out: &mut Text) -> io::Result<Option<(u32, &[u8])>> {
         while let Some(line) = self.next_place(out)? {
             self.count += 1;
             if !line.is_empty() && self.buffer[line.start] != b'#' {
-                return Ok(Some(&self.buffer[line]));
+                self.last = line.start;
+                let long = line.len() > LONGEST_LINE;
+                let line = if long { b" " } else { &self.buffer[line] };
+                return Ok(Some((self.count, line)));
             }
         }
         Ok(None)
+    }
+
+    /// The line that was handed out last will be the next once more.
+    pub fn put_back(&mut self) {
+        self.unread.start = self.last;
+        self.count -= 1;
     }
 
     /// Where the next line stands in the buffer.
@@ -179,7 +194,25 @@ pub fn number(word: &[u8], limit: u32) -> Option<u32> {
     (number <= limit).then_some(number)
 }
 
-fn small(word: &[u8], limit: u8) -> Option<u8> {
+/// The port that a line begins with, if it begins with one, and what is behind it.
+pub fn port(line: &[u8]) -> (Option<u8>, &[u8]) {
+    let word = behind_spaces(line);
+    let digits = word.iter().take_while(|octet| octet.is_ascii_digit()).count();
+    let (digits, behind) = word.split_at(digits);
+    match small(digits, 255) {
+        Some(port) if matches!(behind.first(), None | Some(b' ')) => {
+            (Some(port), behind_spaces(behind))
+        }
+        _ => (None, line),
+    }
+}
+
+fn behind_spaces(line: &[u8]) -> &[u8] {
+    let spaces = line.iter().take_while(|&&octet| octet == b' ').count();
+    &line[spaces..]
+}
+
+pub fn small(word: &[u8], limit: u8) -> Option<u8> {
     number(word, limit.into()).map(|number| number as u8)
 }
 
@@ -268,91 +301,4 @@ pub fn setting<'a>(feature: u8, mut words: impl Iterator<Item = &'a [u8]>) -> Op
         return None;
     }
     Some(OwnedSetting { advertise, enable, willing, parameters })
-}
-
-fn control_line(line: &[u8]) -> Option<u8> {
-    let mut words = words(line);
-    (words.next()? == b"control").then_some(())?;
-    let max = small(words.next()?, 255)?;
-    words.next().is_none().then_some(max)
-}
-
-fn feature_line(line: &[u8], feature: u8) -> Option<(u8, OwnedSetting)> {
-    let mut words = words(line);
-    (words.next()? == place_name(feature).as_bytes()).then_some(())?;
-    let max = small(words.next()?, 255)?;
-    Some((max, setting(feature, words)?))
-}
-
-/// Why settings cannot be used: the line, and whether it can be read at all.
-#[derive(Clone, Copy, Debug, PartialEq, Eq)]
-pub struct BadSettings {
-    pub line: u32,
-    pub read: bool,
-}
-
-impl BadSettings {
-    pub fn tell(&self, out: &mut Text) {
-        let why = if self.read { "refused with 9" } else { "cannot be read" };
-        out.put("bad settings: line ").number(self.line);
-        out.put(": ").put(why).put("\n");
-    }
-}
-
-/// The settings of so many ends. A line that cannot be read comes before one
-/// that is refused.
-pub fn settings<R: Read, W: Write, const ENDS: usize>(
-    lines: &mut Lines<R, W>,
-    out: &mut Text,
-) -> io::Result<Result<[OwnedSettings; ENDS], BadSettings>> {
-    let mut refused = None;
-    let mut ends = Vec::new();
-    for _ in 0..ENDS {
-        match one_end(lines, out, &mut refused)? {
-            Ok(end) => ends.push(end),
-            Err(line) => return Ok(Err(BadSettings { line, read: false })),
-        }
-    }
-    Ok(match refused {
-        Some(line) => Err(BadSettings { line, read: true }),
-        None => Ok(ends.try_into().expect("as many as asked for")),
-    })
-}
-
-/// Four lines, or the number of that which cannot be read; notes the first that
-/// is refused.
-fn one_end<R: Read, W: Write>(
-    lines: &mut Lines<R, W>,
-    out: &mut Text,
-    refused: &mut Option<u32>,
-) -> io::Result<Result<OwnedSettings, u32>> {
-    let line = lines.next(out)?;
-    let control_max = match line.map(control_line) {
-        Some(Some(max)) => max,
-        unread => return Ok(Err(lines.count + u32::from(unread.is_none()))),
-    };
-    let mut features = Vec::new();
-    for feature in PRIORITY_GROUPS..=APPLICATIONS {
-        let line = lines.next(out)?;
-        let (max, setting) = match line.map(|line| feature_line(line, feature)) {
-            Some(Some(read)) => read,
-            unread => return Ok(Err(lines.count + u32::from(unread.is_none()))),
-        };
-        if !valid(feature, &setting) {
-            refused.get_or_insert(lines.count);
-        }
-        features.push((max, setting));
-    }
-    Ok(Ok(OwnedSettings { control_max, feature: features.try_into().expect("three features") }))
-}
-
-fn valid(feature: u8, setting: &OwnedSetting) -> bool {
-    fn of<P: Parameters>(setting: &OwnedSetting) -> bool {
-        FeatureSetting::<P>::read(&setting.lend()).is_ok()
-    }
-    match feature {
-        PRIORITY_GROUPS => of::<Groups>(setting),
-        FLOW_CONTROL => of::<FlowControl>(setting),
-        _ => of::<Applications>(setting),
-    }
 }

@@ -3,17 +3,13 @@
 
 mod common;
 use common::*;
-use reference::events::{Event, Generator, FILL};
+use reference::events::{Answer, Call, Event, Generator, FILL};
 use reference::layout::{Controls, Found};
-use reference::{Card, Reason};
+use reference::{Log, Notice, Port, Reason, Recorder, Setting};
 use std::collections::BTreeMap;
 
-fn held(card: &Card) -> Vec<(u8, u8)> {
-    card.log().notices().map(|n| (n.number, n.feature)).collect()
-}
-
 /// The notices due by the flags, marks and reasons before and after.
-fn due(event: &Event, before: &Card, after: &Card) -> Vec<(u8, u8)> {
+fn due(event: &Event, before: &Port, after: &Port) -> Vec<(u8, u8)> {
     let mut due = Vec::new();
     let (was, is) = (before.flags(), after.flags());
     if !was.several_neighbours && is.several_neighbours {
@@ -45,7 +41,7 @@ fn due(event: &Event, before: &Card, after: &Card) -> Vec<(u8, u8)> {
 }
 
 /// Names the rarer things that an accepted event did.
-fn happened(event: &Event, before: &Card, after: &Card, mut count: impl FnMut(&'static str)) {
+fn happened(event: &Event, before: &Port, after: &Port, mut count: impl FnMut(&'static str)) {
     match event {
         Event::Change { feature, .. } => {
             let (was, is) = (before.feature(*feature), after.feature(*feature));
@@ -91,8 +87,7 @@ fn happened(event: &Event, before: &Card, after: &Card, mut count: impl FnMut(&'
                 if is.oper > was.oper {
                     count("frame: feature Oper raised");
                 }
-                let mut probe = after.clone();
-                if probe.change(number, true, true, true, &is.opercfg).is_err() {
+                if !is_setting(number, &is.opercfg) {
                     count("frame: OperCfg that no setting could have");
                 }
                 if is.advertise && !is.syncd && is.featureseqno != after.control().seqno {
@@ -140,12 +135,18 @@ fn skipped(came: &[u8], held: &[u8], mut count: impl FnMut(&'static str)) {
     }
 }
 
-/// What holds of every state.
-fn lawful(card: &Card) {
-    let control = card.control();
+/// Whether a local setting may have these parameters.
+fn is_setting(feature: u8, parameters: &[u8]) -> bool {
+    let setting = Setting { advertise: true, enable: true, willing: true, parameters };
+    Recorder::blank().change(1, feature, &setting).is_ok()
+}
+
+/// What holds of every state of a port.
+fn lawful(port: &Port) {
+    let control = port.control();
     let mut pending = false;
     for number in 2..=4 {
-        let f = card.feature(number);
+        let f = port.feature(number);
         pending |= f.advertise && !f.syncd;
         assert_eq!(f.reason == Reason::NotAdvertised, !f.advertise);
         let error = matches!(
@@ -156,7 +157,7 @@ fn lawful(card: &Card) {
         let held = matches!(f.reason, Reason::Disabled | Reason::Agreed | Reason::NotCompatible);
         assert_eq!(f.peer.is_some(), held);
         match f.reason {
-            Reason::NotAdvertised => assert_eq!(f.mode, card.running() && f.enable),
+            Reason::NotAdvertised => assert_eq!(f.mode, port.running() && f.enable),
             Reason::Agreed => assert_eq!(f.mode, !f.peer.as_ref().unwrap().error),
             _ => assert!(!f.mode),
         }
@@ -169,17 +170,156 @@ fn lawful(card: &Card) {
         }
     }
     assert!(control.oper <= control.max);
-    if card.running() {
+    if port.running() {
         assert!(!(pending && control.rcvdackno == control.seqno), "the send rule was due");
     } else {
         // The fresh state, stopped.
-        assert_eq!(numbers(card), (0, 0, 0));
+        assert_eq!(numbers(port), (0, 0, 0));
         assert!(!control.peer_seen && !control.duplicate_control && control.oper == control.max);
         for number in 2..=4 {
-            let f = card.feature(number);
+            let f = port.feature(number);
             assert_eq!((f.featureseqno, f.oper, f.syncd), (1, f.max, !f.advertise));
             let reason = if f.advertise { Reason::NoPeerYet } else { Reason::NotAdvertised };
             assert_eq!(f.reason, reason);
+        }
+    }
+}
+
+/// What holds of every log.
+fn lawful_log(log: &Log) {
+    assert!(log.count() <= 64);
+    assert_eq!((1..=4).map(|port| log.held(port)).sum::<usize>(), log.count());
+    for port in 1..=4 {
+        assert_eq!(log.of(port).count(), log.held(port));
+    }
+}
+
+#[derive(Default)]
+struct Counts {
+    kinds: BTreeMap<&'static str, u32>,
+    refusals: [u32; 17],
+    /// By feature, then by reason.
+    became: [[u32; 10]; 3],
+    noticed: [u32; 11],
+    wishes: u32,
+    /// What a full log dropped.
+    drops: BTreeMap<&'static str, u32>,
+    rare: BTreeMap<&'static str, u32>,
+}
+
+impl Counts {
+    fn drop(&mut self, dropped: Dropped) {
+        let what = match dropped.own {
+            0 => "writer holds none",
+            1..=14 => "writer holds 1 to 14",
+            15 => "writer holds 15",
+            16 => "writer holds 16",
+            17..=63 => "writer holds 17 to 63",
+            _ => "writer holds 64",
+        };
+        *self.drops.entry(what).or_default() += 1;
+        if dropped.tie {
+            *self.drops.entry("tie").or_default() += 1;
+        }
+    }
+
+    /// An accepted or refused call at one of the four ports.
+    fn at_port(&mut self, call: &Call, answer: &Answer, before: &Recorder, after: &Recorder) {
+        let (was, is) = (before.port(call.port).unwrap(), after.port(call.port).unwrap());
+        lawful(is);
+        if answer.refusal != 0 {
+            assert!(!answer.wish);
+            assert_eq!(before.dump(), after.dump(), "{call:?}");
+        }
+        match &call.event {
+            Event::Create(_) if answer.refusal == 0 => {
+                let (had, has) = (written_at(before, call.port), written_at(after, call.port));
+                assert!(is.running() && answer.wish == (had != has));
+                assert_eq!(before.log().dump(), after.log().dump());
+                return;
+            }
+            Event::Write(length) => {
+                assert!(!answer.wish);
+                assert_eq!(before.dump(), after.dump());
+                assert_eq!(answer.output.len(), *length);
+                let (ours, behind) = answer.output.split_at(answer.length);
+                assert!(behind.iter().all(|&octet| octet == FILL));
+                if answer.refusal == 0 {
+                    assert_eq!(ours, written_at(after, call.port).unwrap());
+                    // What is written can be read.
+                    assert!(reference::layout::read(ours).is_ok());
+                } else {
+                    assert_eq!(answer.length, 0);
+                }
+                return;
+            }
+            Event::Take => {
+                assert!(!answer.wish);
+                let mut log = PlainLog::of(before.log());
+                let oldest = log.held.iter().position(|notice| notice.port == call.port);
+                assert_eq!(answer.refusal, if oldest.is_some() { 0 } else { 12 });
+                assert_eq!(answer.taken, oldest.map(|place| log.held.remove(place)));
+                assert_eq!(PlainLog::of(after.log()), log);
+                assert_eq!(was.dump(), is.dump());
+                return;
+            }
+            _ => {}
+        }
+        // The wish, by the octets themselves.
+        let differ = written_at(before, call.port) != written_at(after, call.port);
+        assert_eq!(answer.wish, differ, "{call:?}");
+        // The log, by its definition.
+        let new = due(&call.event, was, is);
+        let mut log = PlainLog::of(before.log());
+        let mut raised = Vec::new();
+        for (number, feature) in new {
+            let notice = Notice { port: call.port, number, feature };
+            self.noticed[usize::from(number)] += 1;
+            raised.push(notice);
+            if let Some(dropped) = log.write(notice) {
+                self.drop(dropped);
+            }
+        }
+        assert_eq!(answer.raised, raised, "{call:?}");
+        assert_eq!(PlainLog::of(after.log()), log, "{call:?}");
+        for (feature, became) in self.became.iter_mut().enumerate() {
+            let number = 2 + feature as u8;
+            let (seqno, rcvdackno) = (was.control().seqno, is.control().rcvdackno);
+            let (was, is) = (was.feature(number), is.feature(number));
+            if was.reason != is.reason {
+                became[is.reason as usize] += 1;
+            }
+            if !was.syncd && is.syncd && is.advertise {
+                *self.rare.entry("synced").or_default() += 1;
+                // The Syncd law: the number was SeqNo, and it was acknowledged.
+                assert_eq!((is.featureseqno, is.featureseqno), (seqno, rcvdackno));
+            }
+        }
+        if answer.refusal == 0 {
+            happened(&call.event, was, is, |what| *self.rare.entry(what).or_default() += 1);
+        }
+    }
+
+    fn call(&mut self, call: &Call, answer: &Answer, before: &Recorder, after: &Recorder) {
+        let kind = match call.event {
+            Event::Create(_) => "create",
+            Event::Frame(_) => "frame",
+            Event::PeerGone => "peer gone",
+            Event::SetFlag(..) => "flag",
+            Event::Change { .. } => "change",
+            Event::Write(_) => "write",
+            Event::Take => "take",
+        };
+        *self.kinds.entry(kind).or_default() += 1;
+        self.refusals[usize::from(answer.refusal)] += 1;
+        self.wishes += u32::from(answer.wish);
+        lawful_log(after.log());
+        if (1..=4).contains(&call.port) {
+            assert_ne!(answer.refusal, 16);
+            self.at_port(call, answer, before, after);
+        } else {
+            assert_eq!(answer.refusal, 16);
+            assert_eq!(before.dump(), after.dump());
         }
     }
 }
@@ -190,120 +330,36 @@ fn all_occur_and_all_is_kept() {
     println!("seed {seed:#x}");
     let mut generator = Generator::new(seed);
     let events = 1_000_000;
-    let mut kinds: BTreeMap<&str, u32> = BTreeMap::new();
-    let mut refusals = [0u32; 13];
-    let mut became = [[0u32; 10]; 3];
-    let mut noticed = [0u32; 11];
-    let (mut wishes, mut dropped) = (0u32, 0u32);
-    let mut rare: BTreeMap<&str, u32> = BTreeMap::new();
+    let mut counts = Counts::default();
     for i in 0..events {
-        let before = generator.card().cloned();
-        let (event, answer) = generator.step();
-        let kind = match event {
-            Event::Create(_) => "create",
-            Event::Frame(_) => "frame",
-            Event::PeerGone => "peer gone",
-            Event::SetFlag(..) => "flag",
-            Event::Change { .. } => "change",
-            Event::Write(_) => "write",
-            Event::Take => "take",
-        };
-        *kinds.entry(kind).or_default() += 1;
-        refusals[usize::from(answer.refusal)] += 1;
-        wishes += u32::from(answer.wish);
-        let Some(after) = generator.card() else {
-            assert_eq!(answer.refusal, 9);
-            continue;
-        };
-        lawful(after);
-        if matches!(event, Event::Create(_)) {
-            if answer.refusal == 0 {
-                assert!(answer.wish && after.log().held() == 0);
-            }
-            continue;
+        if i % 1000 == 0 {
+            generator.start();
         }
-        let before = before.unwrap();
-        if answer.refusal != 0 {
-            assert!(!answer.wish);
-            assert_eq!(before.dump(), after.dump(), "event {i} {event:?}");
-        }
-        match &event {
-            Event::Write(length) => {
-                assert!(!answer.wish);
-                assert_eq!(before.dump(), after.dump());
-                assert_eq!(answer.output.len(), *length);
-                let (ours, behind) = answer.output.split_at(answer.length);
-                assert!(behind.iter().all(|&octet| octet == FILL));
-                if answer.refusal == 0 {
-                    assert_eq!(ours, written(after).unwrap());
-                    // What is written can be read.
-                    assert!(reference::layout::read(ours).is_ok());
-                } else {
-                    assert_eq!(answer.length, 0);
-                }
-                continue;
-            }
-            Event::Take => {
-                assert!(!answer.wish);
-                if answer.refusal == 0 {
-                    assert_eq!(held(&before)[0], answer.notice);
-                    assert_eq!(held(&before)[1..], held(after));
-                    assert_eq!(before.log().dropped(), after.log().dropped());
-                }
-                continue;
-            }
-            _ => {}
-        }
-        // The wish, by the octets themselves.
-        assert_eq!(answer.wish, written(&before) != written(after), "event {i} {event:?}");
-        // The log, by its definition.
-        let new = due(&event, &before, after);
-        let mut all = held(&before);
-        all.extend(&new);
-        let over = all.len().saturating_sub(32);
-        assert_eq!(all[over..], held(after), "event {i} {event:?}");
-        assert_eq!(after.log().dropped(), before.log().dropped() + over as u32);
-        dropped += over as u32;
-        new.iter().for_each(|&(number, _)| noticed[usize::from(number)] += 1);
-        for (feature, became) in became.iter_mut().enumerate() {
-            let (was, is) = (reasons(&before)[feature], reasons(after)[feature]);
-            if was != is {
-                became[is as usize] += 1;
-            }
-            let number = 2 + feature as u8;
-            let (was, is) = (before.feature(number), after.feature(number));
-            if !was.syncd && is.syncd && is.advertise {
-                *rare.entry("synced").or_default() += 1;
-                // The Syncd law: the number was SeqNo, and it was acknowledged.
-                assert_eq!(is.featureseqno, before.control().seqno);
-                assert_eq!(is.featureseqno, after.control().rcvdackno);
-            }
-        }
-        if answer.refusal == 0 {
-            happened(&event, &before, after, |what| *rare.entry(what).or_default() += 1);
-        }
+        let before = generator.recorder().clone();
+        let (call, answer) = generator.step();
+        counts.call(&call, &answer, &before, generator.recorder());
     }
-    println!("{events} events: {kinds:?}");
-    println!("wishes {wishes}, dropped {dropped}");
-    println!("{rare:#?}");
-    for (number, count) in refusals.iter().enumerate() {
+    println!("{events} events: {:?}", counts.kinds);
+    println!("wishes {}, drops {:#?}, {:#?}", counts.wishes, counts.drops, counts.rare);
+    for (number, count) in counts.refusals.iter().enumerate() {
         println!("refusal {number:2}: {count}");
+        assert_eq!(*count > 100, !(13..16).contains(&number));
     }
-    for (number, count) in noticed.iter().enumerate().skip(2) {
+    for (number, count) in counts.noticed.iter().enumerate() {
         println!("notice {number:2}: {count}");
+        assert_eq!(*count > 100, number >= 2);
     }
     for reason in Reason::ALL {
-        let counts = became.map(|feature| feature[reason as usize]);
-        println!("became {reason:?}: {counts:?}");
-        assert!(counts.iter().all(|&count| count > 100), "{reason:?}");
+        let became = counts.became.map(|feature| feature[reason as usize]);
+        println!("became {reason:?}: {became:?}");
+        assert!(became.iter().all(|&count| count > 100), "{reason:?}");
     }
-    assert!(refusals.iter().all(|&count| count > 100));
-    assert!(noticed[2..].iter().all(|&count| count > 100));
-    assert_eq!(noticed[..2], [0, 0]);
-    assert!(dropped > 1000);
+    // The six kinds of writer, and ties.
+    assert_eq!(counts.drops.len(), 7);
+    assert!(counts.drops.values().all(|&count| count > 100));
     // Ten kinds of change, seventeen of frame, and synced.
-    assert_eq!(rare.len(), 28);
-    assert!(rare.values().all(|&count| count > 100));
+    assert_eq!(counts.rare.len(), 28);
+    assert!(counts.rare.values().all(|&count| count > 100));
 }
 
 #[test]
@@ -313,12 +369,12 @@ fn the_seed_alone_decides() {
     let other: Vec<_> = Generator::new(8).take(5000).collect();
     assert_eq!(first, again);
     assert_ne!(first, other);
-    // A card driven by the plain events is the generator's own.
+    // A recorder driven by the plain calls is the generator's own.
     let mut generator = Generator::new(7);
-    let mut card = None;
-    for event in &first {
-        let answer = event.apply(&mut card);
-        assert_eq!(generator.step(), (event.clone(), answer));
-        assert_eq!(generator.card().map(Card::dump), card.as_ref().map(Card::dump));
+    let mut recorder = Recorder::blank();
+    for call in &first {
+        let answer = call.apply(&mut recorder);
+        assert_eq!(generator.step(), (call.clone(), answer));
+        assert_eq!(generator.recorder().dump(), recorder.dump());
     }
 }

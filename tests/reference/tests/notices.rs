@@ -2,16 +2,16 @@
 
 mod common;
 use common::*;
-use reference::{Card, Flag, Reason};
+use reference::{Flag, Reason};
 
-fn give(card: &mut Card, list: &SubTlvs) -> Vec<(u8, u8)> {
-    card.frame(&frame(list)).unwrap();
-    notices(card)
+fn give(port: &mut OnePort, list: &SubTlvs) -> Vec<(u8, u8)> {
+    port.frame(&frame(list)).unwrap();
+    notices(port)
 }
 
 #[test]
 fn flags() {
-    let mut card = w2_card();
+    let mut port = w2_port();
     for (flag, on, expected) in [
         (Flag::SeveralNeighbours, true, Some(3)),
         (Flag::SeveralNeighbours, true, None),
@@ -29,55 +29,55 @@ fn flags() {
         (Flag::Enabled, true, None),
         (Flag::Enabled, false, None),
     ] {
-        card.set_flag(flag, on);
-        assert_eq!(notices(&mut card), Vec::from_iter(expected.map(|n| (n, 0))));
+        port.set_flag(flag, on);
+        assert_eq!(notices(&mut port), Vec::from_iter(expected.map(|n| (n, 0))));
     }
 }
 
 #[test]
 fn peer_gone() {
-    let mut card = w2_card();
-    card.peer_gone().unwrap();
-    assert_eq!(notices(&mut card), []);
+    let mut port = w2_port();
+    port.peer_gone().unwrap();
+    assert_eq!(notices(&mut port), []);
     // Seen by a frame that stops at step 2.
-    assert_eq!(give(&mut card, &vec![control(1, 1, 1, 1)]), []);
-    card.peer_gone().unwrap();
-    assert_eq!(notices(&mut card), [(9, 0)]);
-    card.peer_gone().unwrap();
-    assert_eq!(notices(&mut card), []);
+    assert_eq!(give(&mut port, &vec![control(1, 1, 1, 1)]), []);
+    port.peer_gone().unwrap();
+    assert_eq!(notices(&mut port), [(9, 0)]);
+    port.peer_gone().unwrap();
+    assert_eq!(notices(&mut port), []);
     // A stop or the flag forgets the peer without it.
-    let mut card = settled_card();
-    card.set_flag(Flag::Enabled, false);
-    assert_eq!(card.peer_gone(), Err(1));
-    card.set_flag(Flag::Enabled, true);
-    card.peer_gone().unwrap();
-    assert_eq!(notices(&mut card), []);
-    let mut card = settled_card();
-    card.set_flag(Flag::SeveralNeighbours, true);
-    card.peer_gone().unwrap();
-    assert_eq!(notices(&mut card), [(3, 0)]);
+    let mut port = settled_port();
+    port.set_flag(Flag::Enabled, false);
+    assert_eq!(port.peer_gone(), Err(1));
+    port.set_flag(Flag::Enabled, true);
+    port.peer_gone().unwrap();
+    assert_eq!(notices(&mut port), []);
+    let mut port = settled_port();
+    port.set_flag(Flag::SeveralNeighbours, true);
+    port.peer_gone().unwrap();
+    assert_eq!(notices(&mut port), [(3, 0)]);
 }
 
 #[test]
 fn duplicate_control() {
     let mut twice = sub_tlvs(1, 1, 0x80);
     twice.push(control(0, 0, 1, 1));
-    let mut card = settled_card();
-    assert_eq!(give(&mut card, &twice), [(6, 0)]);
-    assert_eq!(give(&mut card, &twice), []);
+    let mut port = settled_port();
+    assert_eq!(give(&mut port, &twice), [(6, 0)]);
+    assert_eq!(give(&mut port, &twice), []);
     // A refused frame does not unmark.
-    assert_eq!(card.frame(&frame(&vec![(1, vec![])])), Err(7));
-    assert_eq!(card.frame(&frame(&vec![control(1, 0, 1, 1)])), Err(8));
-    assert_eq!(give(&mut card, &twice), []);
+    assert_eq!(port.frame(&frame(&vec![(1, vec![])])), Err(7));
+    assert_eq!(port.frame(&frame(&vec![control(1, 0, 1, 1)])), Err(8));
+    assert_eq!(give(&mut port, &twice), []);
     // One readable control does, even one that stops at step 2.
-    assert_eq!(give(&mut card, &vec![control(1, 1, 1, 1)]), []);
-    assert_eq!(give(&mut card, &twice), [(6, 0)]);
-    assert_eq!(give(&mut card, &sub_tlvs(1, 1, 0x80)), []);
-    assert_eq!(give(&mut card, &twice), [(6, 0)]);
+    assert_eq!(give(&mut port, &vec![control(1, 1, 1, 1)]), []);
+    assert_eq!(give(&mut port, &twice), [(6, 0)]);
+    assert_eq!(give(&mut port, &sub_tlvs(1, 1, 0x80)), []);
+    assert_eq!(give(&mut port, &twice), [(6, 0)]);
     // So does a fresh state.
-    card.peer_gone().unwrap();
-    assert_eq!(notices(&mut card), [(9, 0)]);
-    assert_eq!(give(&mut card, &twice), [(6, 0)]);
+    port.peer_gone().unwrap();
+    assert_eq!(notices(&mut port), [(9, 0)]);
+    assert_eq!(give(&mut port, &twice), [(6, 0)]);
 }
 
 /// Sub-TLVs that give this reason to every feature.
@@ -117,11 +117,11 @@ fn every_reason_after_every_other() {
     ];
     for before in given {
         for after in given {
-            let mut card = w2_card();
-            give(&mut card, &all(before));
-            assert_eq!(reasons(&card), [before; 3]);
-            let came = give(&mut card, &all(after));
-            assert_eq!(reasons(&card), [after; 3]);
+            let mut port = w2_port();
+            give(&mut port, &all(before));
+            assert_eq!(reasons(&port), [before; 3]);
+            let came = give(&mut port, &all(after));
+            assert_eq!(reasons(&port), [after; 3]);
             let number = match after {
                 _ if before == after => None,
                 Reason::Duplicate => Some(7),
@@ -151,44 +151,44 @@ fn ascending_features() {
         feature(2, 0, 0, 0x80, &other_parameters(2)),
         control(0, 0, 1, 1),
     ];
-    assert_eq!(give(&mut w2_card(), &list), [(10, 2), (7, 3), (8, 4)]);
+    assert_eq!(give(&mut w2_port(), &list), [(10, 2), (7, 3), (8, 4)]);
 }
 
 #[test]
 fn not_advertised_features_have_none() {
-    let mut card = w2_card();
-    card.change(3, false, true, false, &FLOW).unwrap();
-    assert_eq!(give(&mut card, &all(Reason::Bad)), [(2, 2), (2, 4)]);
+    let mut port = w2_port();
+    port.change(3, false, true, false, &FLOW).unwrap();
+    assert_eq!(give(&mut port, &all(Reason::Bad)), [(2, 2), (2, 4)]);
 }
 
 #[test]
 fn rule_3_and_rule_5_are_one_reason() {
-    let mut card = w2_card();
-    assert_eq!(give(&mut card, &all(Reason::Bad)).len(), 3);
+    let mut port = w2_port();
+    assert_eq!(give(&mut port, &all(Reason::Bad)).len(), 3);
     let mut list = all(Reason::Bad);
     list[2] = feature(3, 0, 0, 0x80, &[8, 9]);
-    assert_eq!(give(&mut card, &list), []);
+    assert_eq!(give(&mut port, &list), []);
 }
 
 #[test]
 fn a_fresh_state_leaves_the_log() {
-    let mut card = w2_card();
-    card.frame(&frame(&all(Reason::Bad))).unwrap();
-    card.peer_gone().unwrap();
-    card.set_flag(Flag::Enabled, false);
-    card.set_flag(Flag::Enabled, true);
-    assert_eq!(notices(&mut card), [(2, 2), (2, 3), (2, 4), (9, 0)]);
+    let mut port = w2_port();
+    port.frame(&frame(&all(Reason::Bad))).unwrap();
+    port.peer_gone().unwrap();
+    port.set_flag(Flag::Enabled, false);
+    port.set_flag(Flag::Enabled, true);
+    assert_eq!(notices(&mut port), [(2, 2), (2, 3), (2, 4), (9, 0)]);
 }
 
 #[test]
 fn one_event_may_drop_several() {
-    let mut card = w2_card();
-    for _ in 0..31 {
-        card.set_flag(Flag::Transmit, false);
-        card.set_flag(Flag::Transmit, true);
+    let mut port = w2_port();
+    for _ in 0..63 {
+        port.set_flag(Flag::Transmit, false);
+        port.set_flag(Flag::Transmit, true);
     }
-    card.frame(&frame(&all(Reason::Absent))).unwrap();
-    assert_eq!((card.log().held(), card.log().dropped()), (32, 2));
-    let held = notices(&mut card);
-    assert_eq!(held[28..], [(4, 0), (8, 2), (8, 3), (8, 4)]);
+    port.frame(&frame(&all(Reason::Absent))).unwrap();
+    assert_eq!((port.held(), port.dropped()), (64, 2));
+    let held = notices(&mut port);
+    assert_eq!(held[60..], [(4, 0), (8, 2), (8, 3), (8, 4)]);
 }

@@ -3,9 +3,9 @@
 mod common;
 use common::*;
 use reference::events::OwnedSettings;
-use reference::{Card, Reason, View};
+use reference::{Reason, View};
 
-/// A card with W2's settings, Max 2 for every feature, and the given feature
+/// A port with W2's settings, Max 2 for every feature, and the given feature
 /// enabled and willing as said.
 fn local(number: u8, enable: bool, willing: bool) -> OwnedSettings {
     let mut settings = w2_settings();
@@ -17,24 +17,24 @@ fn local(number: u8, enable: bool, willing: bool) -> OwnedSettings {
     settings
 }
 
-/// Gives the card a control and these sub-TLVs; says what the feature became.
-fn give(card: &mut Card, number: u8, list: &[(u8, Vec<u8>)]) -> View {
+/// Gives the port a control and these sub-TLVs; says what the feature became.
+fn give(port: &mut OnePort, number: u8, list: &[(u8, Vec<u8>)]) -> View {
     let mut all = vec![control(0, 0, 1, 0)];
     all.extend_from_slice(list);
-    card.frame(&frame(&all)).unwrap();
-    card.feature(number)
+    port.frame(&frame(&all)).unwrap();
+    port.feature(number)
 }
 
 fn good(number: u8) -> (u8, Vec<u8>) {
     feature(number, 2, 2, 0x80, w2_parameters(number))
 }
 
-/// A card whose feature already holds a peer, with Oper 1.
-fn holding(number: u8) -> Card {
-    let mut card = card(&local(number, true, false));
-    let view = give(&mut card, number, &[feature(number, 1, 1, 0x80, w2_parameters(number))]);
+/// A port whose feature already holds a peer, with Oper 1.
+fn holding(number: u8) -> OnePort {
+    let mut port = port(&local(number, true, false));
+    let view = give(&mut port, number, &[feature(number, 1, 1, 0x80, w2_parameters(number))]);
     assert_eq!((view.reason, view.oper, view.mode), (Reason::Agreed, 1, true));
-    card
+    port
 }
 
 /// What rules 1 to 5 all do.
@@ -47,8 +47,8 @@ fn no_peer(view: &View, reason: Reason, error: bool) {
 #[test]
 fn rule_1_absent() {
     for number in 2..=4 {
-        let mut card = holding(number);
-        let view = give(&mut card, number, &[]);
+        let mut port = holding(number);
+        let view = give(&mut port, number, &[]);
         no_peer(&view, Reason::Absent, false);
         assert_eq!(view.oper, 2);
         // Another SubType is another feature.
@@ -109,9 +109,9 @@ fn rule_4_waiting() {
             assert_eq!(view.oper, becomes);
         }
         // The lower of the two Max, not of our Oper.
-        let mut card = holding(number);
-        assert_eq!(card.feature(number).oper, 1);
-        let view = give(&mut card, number, &[good(number)]);
+        let mut port = holding(number);
+        assert_eq!(port.feature(number).oper, 1);
+        let view = give(&mut port, number, &[good(number)]);
         assert_eq!((view.reason, view.oper), (Reason::Agreed, 2));
     }
 }
@@ -181,8 +181,8 @@ fn what_may_be_received_though_not_set() {
             hex("ff 77 00 0f 64 00 00 00 00 00 00 00 00"),
         ),
     ] {
-        let mut card = card(&local(number, true, true));
-        let view = give(&mut card, number, &[feature(number, 2, 2, 0x80, &parameters)]);
+        let mut port = port(&local(number, true, true));
+        let view = give(&mut port, number, &[feature(number, 2, 2, 0x80, &parameters)]);
         assert_eq!(view.reason, Reason::Agreed);
         assert_eq!(view.opercfg, held);
         assert_eq!(view.peer.unwrap().parameters, held);
@@ -217,7 +217,7 @@ fn entries_that_are_not_ours_are_skipped() {
         ),
     ] {
         // A willing end adopts what is held.
-        let mut willing = card(&local(4, true, true));
+        let mut willing = port(&local(4, true, true));
         let view = give(&mut willing, 4, &[feature(4, 2, 2, 0x80, &came)]);
         assert_eq!(view.reason, Reason::Agreed, "{came:02x?}");
         assert_eq!(view.opercfg, held);
@@ -246,10 +246,10 @@ fn rules_6_to_9() {
                 let (enable, willing) = (own & 2 != 0, own & 1 != 0);
                 for bits in 0..8 {
                     let (octet, peer_enable, peer_willing, peer_error) = flags(bits);
-                    let mut card = card(&local(number, enable, willing));
+                    let mut port = port(&local(number, enable, willing));
                     // The other bits are ignored.
                     let came = feature(number, 2, 2, octet | 0x1f, &parameters);
-                    let view = give(&mut card, number, &[came]);
+                    let view = give(&mut port, number, &[came]);
                     let peer = view.peer.unwrap();
                     assert_eq!(
                         (peer.enable, peer.willing, peer.error),
@@ -314,8 +314,8 @@ fn compatible() {
     for (number, own, theirs, compatible) in cases {
         let mut settings = local(number, true, false);
         settings.feature[usize::from(number) - 2].1.parameters = own.clone();
-        let mut card = card(&settings);
-        let view = give(&mut card, number, &[feature(number, 2, 2, 0x80, &theirs)]);
+        let mut port = port(&settings);
+        let view = give(&mut port, number, &[feature(number, 2, 2, 0x80, &theirs)]);
         assert_eq!(view.reason == Reason::Agreed, compatible, "{own:02x?} {theirs:02x?}");
         assert_eq!(view.reason == Reason::NotCompatible, !compatible);
         assert_eq!(view.opercfg, own);
@@ -327,8 +327,8 @@ fn features_that_are_not_advertised_ignore_what_came() {
     for number in 2..=4 {
         let mut settings = local(number, true, true);
         settings.feature[usize::from(number) - 2].1.advertise = false;
-        let mut card = card(&settings);
-        let before = card.feature(number);
+        let mut port = port(&settings);
+        let before = port.feature(number);
         for list in [
             vec![],
             vec![good(number)],
@@ -336,7 +336,7 @@ fn features_that_are_not_advertised_ignore_what_came() {
             vec![(number, vec![])],
             vec![control(0, 0, 1, 1), good(number)],
         ] {
-            assert_eq!(give(&mut card, number, &list), before);
+            assert_eq!(give(&mut port, number, &list), before);
         }
     }
 }

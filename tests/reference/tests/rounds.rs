@@ -1,32 +1,39 @@
-//! Demand 3: five rounds settle, and what is held of the peer is its own.
+//! Demand 3: five rounds settle, and what is held of the peer is its own, between
+//! any port of one recorder and any port of another, whatever their other ports do.
 
 mod common;
 use common::*;
-use reference::events::{random, OwnedSettings};
+use reference::events::{random, Call, Event, OwnedSetting, OwnedSettings};
 use reference::layout;
 use reference::rng::XorShift;
 use reference::rounds::{Ends, Round};
-use reference::{Card, Flag, Reason};
+use reference::{Flag, Reason, Recorder};
 
-/// A few calls that are refused, whatever their octets.
-fn refused(rng: &mut XorShift, card: &mut Card) {
+/// A few calls that are refused at this port, whatever their octets.
+fn refused(rng: &mut XorShift, recorder: &mut Recorder, port: u8) {
     while rng.percent(20) {
-        match rng.below(4) {
+        match rng.below(5) {
             0 => {
-                let length = written(card).unwrap().len();
+                let length = written_at(recorder, port).unwrap().len();
                 let mut out = vec![0; rng.below(length as u32) as usize];
-                assert_eq!(card.write(&mut out), Err(10));
+                assert_eq!(recorder.write(port, &mut out), Err(10));
             }
             1 => {
                 let length = rng.below(80) as usize;
                 let octets = rng.octets(length);
                 if layout::read(&octets).is_err() {
-                    assert!(card.frame(&octets).is_err());
+                    assert!(recorder.frame(port, &octets).is_err());
                 }
+            }
+            2 => {
+                let number = rng.pick(&[0, 5, 255]);
+                let octets = written_at(recorder, port).unwrap();
+                assert_eq!(recorder.frame(number, &octets), Err(16));
+                assert_eq!(recorder.write(number, &mut [0; 147]), Err(16));
             }
             _ => {
                 // Our own frame with an octet changed or its end cut.
-                let mut octets = written(card).unwrap();
+                let mut octets = written_at(recorder, port).unwrap();
                 let place = rng.below(octets.len() as u32) as usize;
                 if rng.flip() {
                     octets[place] ^= 1 << rng.below(8);
@@ -34,36 +41,69 @@ fn refused(rng: &mut XorShift, card: &mut Card) {
                     octets.truncate(place);
                 }
                 if layout::read(&octets).is_err() {
-                    assert!(card.frame(&octets).is_err());
+                    assert!(recorder.frame(port, &octets).is_err());
                 }
             }
         }
     }
 }
 
-/// A just started port, now and then one with a past.
-fn started(rng: &mut XorShift, settings: &OwnedSettings) -> Card {
-    let mut card = card(settings);
+/// A few calls at the other ports, refused or not.
+fn elsewhere(rng: &mut XorShift, recorder: &mut Recorder, port: u8) {
+    while rng.percent(20) {
+        let other = 1 + (port + rng.below(3) as u8) % 4;
+        assert_ne!(other, port);
+        let event = match rng.below(8) {
+            0 => Event::Create(random::settings(rng)),
+            1 => Event::PeerGone,
+            2 | 3 => Event::SetFlag(rng.pick(&Flag::ALL), rng.flip()),
+            4 => Event::Change { feature: 3, setting: flow(rng) },
+            5 => Event::Write(147),
+            6 => Event::Take,
+            _ => Event::Frame(written_at(recorder, port).unwrap()),
+        };
+        Call { port: other, event }.apply(recorder);
+    }
+}
+
+fn flow(rng: &mut XorShift) -> OwnedSetting {
+    let parameters = random::valid(rng, 3, true);
+    OwnedSetting { advertise: rng.flip(), enable: rng.flip(), willing: rng.flip(), parameters }
+}
+
+fn between(rng: &mut XorShift) -> impl FnMut(&mut Recorder, u8) + '_ {
+    |recorder, port| {
+        refused(rng, recorder, port);
+        elsewhere(rng, recorder, port);
+    }
+}
+
+/// A recorder with a just started port, now and then one with a past.
+fn started(rng: &mut XorShift, settings: &OwnedSettings) -> (Recorder, u8) {
+    let port = 1 + rng.below(4) as u8;
+    let mut recorder = Recorder::blank();
+    recorder.create(port, &settings.lend()).unwrap();
+    elsewhere(rng, &mut recorder, port);
     if rng.percent(25) {
         for _ in 0..rng.below(4) {
             let (seqno, ackno) = (rng.below(4), rng.below(4));
             let mut list = sub_tlvs(seqno, ackno, rng.octet());
             list.remove(1 + rng.below(3) as usize);
-            card.frame(&frame(&list)).unwrap();
+            recorder.frame(port, &frame(&list)).unwrap();
         }
         match rng.below(3) {
-            0 => drop(card.peer_gone().unwrap()),
+            0 => drop(recorder.peer_gone(port).unwrap()),
             1 => {
-                card.set_flag(Flag::SeveralNeighbours, true);
-                card.set_flag(Flag::SeveralNeighbours, false);
+                recorder.set_flag(port, Flag::SeveralNeighbours, true).unwrap();
+                recorder.set_flag(port, Flag::SeveralNeighbours, false).unwrap();
             }
             _ => {
-                card.set_flag(Flag::Enabled, false);
-                card.set_flag(Flag::Enabled, true);
+                recorder.set_flag(port, Flag::Enabled, false).unwrap();
+                recorder.set_flag(port, Flag::Enabled, true).unwrap();
             }
         }
     }
-    card
+    (recorder, port)
 }
 
 fn pair(rng: &mut XorShift) -> Ends {
@@ -74,7 +114,7 @@ fn pair(rng: &mut XorShift) -> Ends {
 }
 
 fn dumps(ends: &Ends) -> [Vec<u8>; 2] {
-    [ends.end[0].dump(), ends.end[1].dump()]
+    ends.ends().map(|end| end.dump())
 }
 
 #[test]
@@ -90,7 +130,7 @@ fn five_rounds_settle() {
         let mut first = None;
         for round in 1..=5 {
             let whole = Round::whole(rng.below(2) as usize);
-            ends.round_with(whole, |card| refused(&mut rng, card));
+            ends.round_with(whole, between(&mut rng));
             assert!(ends.held_is_own(), "pair {i}");
             if first.is_none() && ends.settled() {
                 first = Some(round);
@@ -98,7 +138,7 @@ fn five_rounds_settle() {
         }
         assert!(ends.settled(), "pair {i}: {ends:?}");
         settled_after[first.unwrap()] += 1;
-        for end in &ends.end {
+        for end in ends.ends() {
             reasons(end).iter().for_each(|&reason| seen[reason as usize] += 1);
         }
         // What settled stays.
@@ -138,9 +178,9 @@ fn losses_leave_the_peers_own() {
                 writes: [rng.percent(80), rng.percent(80)],
                 delivered: [rng.percent(60), rng.percent(60)],
             };
-            ends.round_with(round, |card| refused(&mut rng, card));
+            ends.round_with(round, between(&mut rng));
             assert!(ends.held_is_own(), "pair {i}: {ends:?}");
-            held += ends.end.iter().map(|end| u32::from(end.flow().peer.is_some())).sum::<u32>();
+            held += ends.ends().map(|end| u32::from(end.flow().peer.is_some())).iter().sum::<u32>();
         }
         // After the losses, rounds without any settle too.
         for _ in 0..5 {
@@ -191,7 +231,7 @@ fn every_kind_of_settings() {
                             theirs.1.parameters = other_parameters(2 + i as u8);
                         }
                     }
-                    let mut ends = Ends::new(card(&a), card(&b));
+                    let mut ends = common::ends(&a, &b);
                     let rounds = (1..=5).find(|_| {
                         ends.round();
                         ends.settled()

@@ -6,10 +6,10 @@ use Rattle.desk.proofs.run.Statement.{statement}
 use Rattle.desk.proofs.run.Tie as tie
 
 abbrev Inv-loop : tie.InvT-loop
-Inv-loop input₀ output₀ card₀ lines₀ at₀ turns₀ input output card lines at turns = (length input ≡ length input₀) × (length output ≡ length output₀)
+Inv-loop input₀ output₀ held₀ lines₀ at₀ turns₀ input output held lines at turns = (length input ≡ length input₀) × (length output ≡ length output₀)
 
 abbrev μ-loop : tie.MeasureT-loop
-μ-loop input₀ output₀ card₀ lines₀ at₀ turns₀ input output card lines at turns = turns
+μ-loop input₀ output₀ held₀ lines₀ at₀ turns₀ input output held lines at turns = turns
 
 loop-holds : tie.Need-loop-holds Inv-loop μ-loop
 loop-holds c = search needs
@@ -32,29 +32,71 @@ returns c = search needs
 line-requires : tie.Need-line-requires Inv-loop μ-loop
 line-requires c κs = search needs
 
+port-of-requires : tie.Need-port-of-requires Inv-loop μ-loop
+port-of-requires c κs = search needs
+
+behind-port-requires : tie.Need-behind-port-requires Inv-loop μ-loop
+behind-port-requires c κs = search needs
+
+first-requires : tie.Need-first-requires Inv-loop μ-loop
+first-requires c κs = search needs
+
+place-of-requires : tie.Need-place-of-requires Inv-loop μ-loop
+place-of-requires c κs = search needs
+
 is-frame-requires : tie.Need-is-frame-requires Inv-loop μ-loop
 is-frame-requires c κs = search needs
 
+mul-handle : tie.Need-mul-handle Inv-loop μ-loop
+mul-handle c = search needs
+
+element-copy-out-handle : tie.Need-element-copy-out-handle Inv-loop μ-loop
+element-copy-out-handle c = search needs
+
 handle-requires : tie.Need-handle-requires Inv-loop μ-loop
 handle-requires c κs = search needs
+
+mul-port : tie.Need-mul-port Inv-loop μ-loop
+mul-port c = search needs
+
+element-set-from-port : tie.Need-element-set-from-port Inv-loop μ-loop
+element-set-from-port c = search needs
+
+is-silent-requires : tie.Need-is-silent-requires Inv-loop μ-loop
+is-silent-requires c κs = search needs
+
+keep-requires : tie.Need-keep-requires Inv-loop μ-loop
+keep-requires c κs = search needs
 
 answered-requires : tie.Need-answered-requires Inv-loop μ-loop
 answered-requires c κs = search needs
 
 loop-less : tie.Need-loop-less Inv-loop μ-loop
-loop-less c = search (needs, c .before .before .before .before .before .before .before .before .before .before .before .before .before .before .before .before .before .before)
+loop-less c = search (needs, c .before .before .before .before .before .before .before .before .before .before .before .before .before .before .before .before .before .before .before .before .before .before .before .before .before .before .before .before)
 
 loop-again : tie.Need-loop-again Inv-loop μ-loop
-loop-again c = search (needs, c .before .before .before .before .before .before .before .before .before .before .before .before .before .before, c .before .before .before .before .before .before .before .before .before .before .before .before .before .before .before .before .before .before .before)
+loop-again c = search (needs, c .before .before .before .before .before .before .before .before .before .before .before .before .before, c .before .before .before .before .before .before .before .before .before .before .before .before .before .before .before .before .before .before .before .before .before .before .before .before, c .before .before .before .before .before .before .before .before .before .before .before .before .before .before .before .before .before .before .before .before .before .before .before .before .before .before .before .before .before)
+
+mul-event : tie.Need-mul-event Inv-loop μ-loop
+mul-event c = search needs
+
+element-copy-out-event : tie.Need-element-copy-out-event Inv-loop μ-loop
+element-copy-out-event c = search needs
 
 event-requires : tie.Need-event-requires Inv-loop μ-loop
 event-requires c κs = search needs
 
+mul-port-2 : tie.Need-mul-port-2 Inv-loop μ-loop
+mul-port-2 c = search needs
+
+element-set-from-port-2 : tie.Need-element-set-from-port-2 Inv-loop μ-loop
+element-set-from-port-2 c = search needs
+
 loop-less-2 : tie.Need-loop-less-2 Inv-loop μ-loop
-loop-less-2 c = search (needs, c .before .before .before .before .before .before .before .before .before .before .before .before .before .before .before .before)
+loop-less-2 c = search (needs, c .before .before .before .before .before .before .before .before .before .before .before .before .before .before .before .before .before .before .before .before .before .before .before .before .before .before .before)
 
 loop-again-2 : tie.Need-loop-again-2 Inv-loop μ-loop
-loop-again-2 c = search (needs, c .before .before .before .before .before .before .before .before .before .before .before .before, c .before .before .before .before .before .before .before .before .before .before .before .before .before .before .before .before .before)
+loop-again-2 c = search (needs, c .before .before .before .before .before .before .before .before .before .before .before .before, c .before .before .before .before .before .before .before .before .before .before .before .before .before .before .before .before .before .before .before .before .before .before .before, c .before .before .before .before .before .before .before .before .before .before .before .before .before .before .before .before .before .before .before .before .before .before .before .before .before .before .before .before)
 
 same-length-3 : tie.Need-same-length-3 Inv-loop μ-loop
 same-length-3 c = search needs
@@ -78,12 +120,26 @@ run-spec =
     same-length-2
     returns
     line-requires
+    port-of-requires
+    behind-port-requires
+    first-requires
+    place-of-requires
     is-frame-requires
+    mul-handle
+    element-copy-out-handle
     handle-requires
+    mul-port
+    element-set-from-port
+    is-silent-requires
+    keep-requires
     answered-requires
     loop-less
     loop-again
+    mul-event
+    element-copy-out-event
     event-requires
+    mul-port-2
+    element-set-from-port-2
     loop-less-2
     loop-again-2
     same-length-3

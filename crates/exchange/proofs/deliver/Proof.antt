@@ -19,9 +19,12 @@ returns c = search received-frame
 enum-told : tie.Need-enum-told
 enum-told c = search needs
 
+unchanged-requires : tie.Need-unchanged-requires
+unchanged-requires c κs = search needs
+
 returns-2 : tie.Need-returns-2
 returns-2 c = search received-none
 
 pub deliver-spec : {M : Type 1} → statement M
 deliver-spec =
-    tie.close (tie.spec enum-known-w first-requires handle-requires returns enum-told returns-2)
+    tie.close (tie.spec enum-known-w first-requires handle-requires returns enum-told unchanged-requires returns-2)

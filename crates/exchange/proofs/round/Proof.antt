@@ -17,13 +17,17 @@ deliver-requires-2 : tie.Need-deliver-requires-2
 deliver-requires-2 c κs = search needs
 
 same-length : tie.Need-same-length
-same-length c = search (needs, c .before .before .before .before .before .before .before .before .before .before .write)
+same-length c = search (needs, c .before .before .before .before .before .before .before .before .before .before .before .before .before .before .write)
 
 same-length-2 : tie.Need-same-length-2
 same-length-2 c = search needs
 
 returns : tie.Need-returns
-returns c = rounded _ _ _ _ (c .before .before .before .before .before .before .before .before .before .before .write .ensures) (c .before .before .before .before .before .before .write2 .ensures) (c .before .before .deliver .ensures) (c .deliver2 .ensures)
+returns c =
+    rounded _ _ _ _ (c .before .before .before .before .before .before .before .before .before .before .before .before .before .before .write .ensures)
+    (c .before .before .before .before .before .before .before .before .before .before .write2 .ensures)
+    (c .before .before .before .before .before .before .deliver .ensures)
+    (c .before .before .before .before .deliver2 .ensures)
 
 pub round-spec : {M : Type 1} → statement M
 round-spec =

@@ -5,10 +5,13 @@ use Rattle.pair.proofs.settle.Statement.{statement}
 use Rattle.pair.proofs.settle.Tie as tie
 
 abbrev Inv-loop : tie.InvT-loop
-Inv-loop pair₀ rounds₀ pair rounds = Unit {0}
+Inv-loop ends₀ rounds₀ ends rounds = Unit {0}
 
 abbrev μ-loop : tie.MeasureT-loop
-μ-loop pair₀ rounds₀ pair rounds = 5 - rounds
+μ-loop ends₀ rounds₀ ends rounds = 5 - rounds
+
+empty-requires : tie.Need-empty-requires Inv-loop μ-loop
+empty-requires c κs = search needs
 
 loop-holds : tie.Need-loop-holds Inv-loop μ-loop
 loop-holds c = tt
@@ -16,8 +19,8 @@ loop-holds c = tt
 settled-requires : tie.Need-settled-requires Inv-loop μ-loop
 settled-requires c κs = search needs
 
-round-requires : tie.Need-round-requires Inv-loop μ-loop
-round-requires c κs = search needs
+behind-round-requires : tie.Need-behind-round-requires Inv-loop μ-loop
+behind-round-requires c κs = search needs
 
 add-rounds : tie.Need-add-rounds Inv-loop μ-loop
 add-rounds c = search needs
@@ -31,16 +34,21 @@ loop-again c = tt
 returns : tie.Need-returns Inv-loop μ-loop
 returns c = search needs
 
+returns-2 : tie.Need-returns-2 Inv-loop μ-loop
+returns-2 c = search needs
+
 pub settle-spec : {M : Type 1} → statement M
 settle-spec =
     tie.close
     (tie.spec
     Inv-loop
     μ-loop
+    empty-requires
     loop-holds
     settled-requires
-    round-requires
+    behind-round-requires
     add-rounds
     loop-less
     loop-again
-    returns)
+    returns
+    returns-2)

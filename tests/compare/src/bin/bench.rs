@@ -1,11 +1,13 @@
 //! The proved engine beside the reference, on the same input in the same run:
-//! nanoseconds for one operation, and their ratio. `make bench` from the top.
+//! nanoseconds for one operation, and their ratio; frames are handled and written
+//! at the four ports of a recorder in turn. Then the engine's four ports in turn
+//! beside the same call at a port alone. `make bench` from the top.
 //! Words behind `bench` name the rows to be measured, each by its start.
 
 use compare::{engine, script};
 use reference::events::{OwnedSetting, OwnedSettings};
 use reference::layout::{self, Found, LONGEST_FRAME};
-use reference::Card;
+use reference::{Recorder, PORTS};
 use std::hint::black_box;
 use std::io::Write;
 use std::path::Path;
@@ -34,20 +36,29 @@ fn settings(applications: u8) -> OwnedSettings {
     }
 }
 
-/// Frames of the other end, SeqNo going up, AckNo right; with `clash` each
-/// second one has another flow control mask, so that Error comes and goes.
-fn frames(settings: &OwnedSettings, clash: bool) -> (Vec<u8>, usize) {
-    let card = Card::create(&settings.lend()).expect("valid settings");
+/// A recorder whose four ports have these settings.
+fn recorder(settings: &OwnedSettings) -> Recorder {
+    let mut recorder = Recorder::blank();
+    for port in 1..=PORTS as u8 {
+        recorder.create(port, &settings.lend()).expect("valid settings");
+    }
+    recorder
+}
+
+/// Frames of the other end, SeqNo going up, AckNo right. With `clash` each second
+/// one that a port is given has another flow control mask, so that Error comes and
+/// goes, if so many ports are given them in turn.
+fn frames(settings: &OwnedSettings, clash: Option<usize>) -> (Vec<u8>, usize) {
     let mut octets = [0; LONGEST_FRAME];
-    let size = card.write(&mut octets).expect("room");
+    let size = recorder(settings).write(1, &mut octets).expect("room");
     let mut frames = Vec::new();
     for i in 0..FRAMES {
         let frame = &mut octets[..size];
         frame[13] = i as u8;
         frame[17] = 1;
-        if clash {
+        if let Some(ports) = clash {
             let mask = 6 + 12 + 19 + 6;
-            frame[mask] = if i % 2 == 0 { 0x10 } else { 0x08 };
+            frame[mask] = if i / ports % 2 == 0 { 0x10 } else { 0x08 };
         }
         frames.extend_from_slice(frame);
     }
@@ -89,10 +100,10 @@ fn read_many(frames: &[u8], size: usize, times: usize) -> u64 {
 
 #[inline(never)]
 fn handle_many(settings: &OwnedSettings, frames: &[u8], size: usize, times: usize) -> u64 {
-    let mut card = Card::create(&settings.lend()).expect("valid settings");
-    let all = frames.chunks_exact(size).cycle();
-    all.take(times).fold(0, |sum: u64, frame| {
-        let told = match card.frame(frame) {
+    let mut recorder = recorder(settings);
+    let all = frames.chunks_exact(size).cycle().zip((1..=PORTS as u8).cycle());
+    all.take(times).fold(0, |sum: u64, (frame, port)| {
+        let told = match recorder.frame(port, frame) {
             Ok(wish) => wish.into(),
             Err(number) => number.into(),
         };
@@ -102,9 +113,9 @@ fn handle_many(settings: &OwnedSettings, frames: &[u8], size: usize, times: usiz
 
 #[inline(never)]
 fn write_many(settings: &OwnedSettings, times: usize, out: &mut [u8]) -> u64 {
-    let card = Card::create(&settings.lend()).expect("valid settings");
-    (0..times).fold(0, |sum: u64, _| {
-        let told = match black_box(&card).write(out) {
+    let recorder = recorder(settings);
+    (1..=PORTS as u8).cycle().take(times).fold(0, |sum: u64, port| {
+        let told = match black_box(&recorder).write(port, out) {
             Ok(_) => out[17].into(),
             Err(number) => number.into(),
         };
@@ -124,45 +135,56 @@ fn wanted(name: &str) -> bool {
     starts.peek().is_none() || starts.any(|start| name.starts_with(&start))
 }
 
-/// Measures both sides in turn; they must come to the same.
-fn compare(name: &str, mut engine: impl FnMut() -> u64, mut reference: impl FnMut() -> u64) {
+/// Measures two sides in turn; they must come to the same.
+fn compare(name: &str, bar: &str, mut one: impl FnMut() -> u64, mut other: impl FnMut() -> u64) {
     if !wanted(name) {
         return;
     }
     let mut best = [Duration::MAX; 2];
     for _ in 0..MEASUREMENTS {
-        let (ours, a) = time(&mut engine);
-        let (theirs, b) = time(&mut reference);
-        assert_eq!(a, b, "{name}: the engines come to different sums");
-        best = [best[0].min(ours), best[1].min(theirs)];
+        let (first, a) = time(&mut one);
+        let (second, b) = time(&mut other);
+        assert_eq!(a, b, "{name}: the two come to different sums");
+        best = [best[0].min(first), best[1].min(second)];
     }
-    let [engine, reference] = best.map(|time| time.as_nanos() as f64 / TIMES as f64);
-    row(name, engine, reference, "1.5");
+    let [one, other] = best.map(|time| time.as_nanos() as f64 / TIMES as f64);
+    row(name, one, other, bar);
 }
 
-fn row(name: &str, engine: f64, reference: f64, bar: &str) {
-    let ratio = engine / reference;
-    println!("{name:44} {engine:10.1} {reference:10.1} {ratio:8.2} {bar:>6}");
+fn heading(one: &str, other: &str) {
+    println!("{:50} {one:>10} {other:>10} {:>8} {:>6}", "nanoseconds", "ratio", "bar");
 }
+
+fn row(name: &str, one: f64, other: f64, bar: &str) {
+    let ratio = one / other;
+    println!("{name:50} {one:10.1} {other:10.1} {ratio:8.2} {bar:>6}");
+}
+
+/// Settings of a frame with one application, and of one with 16.
+const KINDS: [(&str, u8); 2] = [("W2 frame", 1), ("frame of 16 entries", 16)];
 
 fn engines() {
-    for (name, applications) in [("W2 frame", 1), ("frame of 16 entries", 16)] {
+    const BAR: &str = "1.5";
+    for (name, applications) in KINDS {
         let settings = settings(applications);
-        let creation = script::creation(&settings);
-        let (plain, size) = frames(&settings, false);
-        let (clashing, _) = frames(&settings, true);
+        let creation = script::creation(1, &settings);
+        let (plain, size) = frames(&settings, None);
+        let (clashing, _) = frames(&settings, Some(PORTS));
         compare(
             &format!("read, {name}"),
+            BAR,
             || engine::read_many(&plain, size, TIMES),
             || read_many(black_box(&plain), size, TIMES),
         );
         compare(
             &format!("handle, {name}"),
+            BAR,
             || engine::handle_many(&creation, &plain, size, TIMES),
             || handle_many(&settings, black_box(&plain), size, TIMES),
         );
         compare(
             &format!("handle, {name}, Error changes"),
+            BAR,
             || engine::handle_many(&creation, &clashing, size, TIMES),
             || handle_many(&settings, black_box(&clashing), size, TIMES),
         );
@@ -171,6 +193,7 @@ fn engines() {
             let (mixed, size) = among_foreign(&plain, size, 61);
             compare(
                 "handle, frame of 77 entries, 16 ours",
+                BAR,
                 || engine::handle_many(&creation, &mixed, size, TIMES),
                 || handle_many(&settings, black_box(&mixed), size, TIMES),
             );
@@ -178,6 +201,7 @@ fn engines() {
         let (mut ours, mut theirs) = ([0; LONGEST_FRAME], [0; LONGEST_FRAME]);
         compare(
             &format!("write, {name}"),
+            BAR,
             || engine::write_many(&creation, TIMES, &mut ours),
             || write_many(&settings, TIMES, black_box(&mut theirs)),
         );
@@ -185,11 +209,43 @@ fn engines() {
     }
 }
 
+/// What three ports beside it cost one.
+fn ports() {
+    const BAR: &str = "1.25";
+    for (name, applications) in KINDS {
+        let settings = settings(applications);
+        let creation = script::creation(1, &settings);
+        let (plain, size) = frames(&settings, None);
+        let (clashing, _) = frames(&settings, Some(PORTS));
+        let (clashing_alone, _) = frames(&settings, Some(1));
+        compare(
+            &format!("alone: handle, {name}"),
+            BAR,
+            || engine::handle_many(&creation, &plain, size, TIMES),
+            || engine::handle_alone(&creation, &plain, size, TIMES),
+        );
+        compare(
+            &format!("alone: handle, {name}, Error changes"),
+            BAR,
+            || engine::handle_many(&creation, &clashing, size, TIMES),
+            || engine::handle_alone(&creation, &clashing_alone, size, TIMES),
+        );
+        let (mut four, mut alone) = ([0; LONGEST_FRAME], [0; LONGEST_FRAME]);
+        compare(
+            &format!("alone: write, {name}"),
+            BAR,
+            || engine::write_many(&creation, TIMES, &mut four),
+            || engine::write_alone(&creation, TIMES, &mut alone),
+        );
+        assert_eq!(four, alone);
+    }
+}
+
 /// A million events: frames, writes, changes of settings, flags and takes.
 fn desk_input() -> Vec<u8> {
     let settings = settings(1);
-    let (plain, size) = frames(&settings, false);
-    let (clashing, _) = frames(&settings, true);
+    let (plain, size) = frames(&settings, None);
+    let (clashing, _) = frames(&settings, Some(1));
     let hex = |frame: &[u8]| -> String { frame.iter().map(|o| format!("{o:02x}")).collect() };
     let plain: Vec<String> = plain.chunks_exact(size).map(hex).collect();
     let clashing: Vec<String> = clashing.chunks_exact(size).map(hex).collect();
@@ -249,11 +305,11 @@ fn desks() {
 }
 
 fn main() {
-    println!(
-        "{:44} {:>10} {:>10} {:>8} {:>6}",
-        "nanoseconds", "engine", "reference", "ratio", "bar"
-    );
+    heading("engine", "reference");
     engines();
     desks();
-    println!("a card of the reference: {} octets", std::mem::size_of::<Card>());
+    println!();
+    heading("four ports", "alone");
+    ports();
+    println!("a recorder of the reference: {} octets", std::mem::size_of::<Recorder>());
 }

@@ -1,8 +1,10 @@
-//! One port at a desk: settings, then events, each answered (docs/FORMATS.md).
+//! A recorder at a desk: settings of its ports, then events, each answered (docs/FORMATS.md).
 
+use reference::dump;
 use reference::layout::{Parameters, APPLICATIONS, FLOW_CONTROL, PRIORITY_GROUPS};
+use reference::setup::{self, Failure};
 use reference::text::{self, Lines, Text};
-use reference::{Card, Feature, Flag};
+use reference::{Feature, Flag, Log, Port, Recorder, Setting};
 use std::io;
 
 /// The most octets of a frame, of parameters and of an output that a line names.
@@ -11,17 +13,45 @@ const PARAMETERS: usize = 507;
 const ROOM: usize = 1000;
 
 struct Desk {
-    card: Card,
+    recorder: Recorder,
+    /// The port at hand.
+    port: u8,
     /// A frame's or parameters' octets.
     octets: Vec<u8>,
+    /// The answer to a line that names its port.
+    answer: Text,
 }
 
 impl Desk {
+    /// Answers a line. If it names its port, each line of the answer does too.
+    fn line(&mut self, line: &[u8], number: u32, out: &mut Text) {
+        let (named, behind) = text::port(line);
+        let Some(port) = named else {
+            self.port = 1;
+            return self.answer(line, number, out);
+        };
+        self.port = port;
+        let mut answer = std::mem::take(&mut self.answer);
+        self.answer(behind, number, &mut answer);
+        for line in answer.0.split_inclusive(|&octet| octet == b'\n') {
+            out.number(port).put(" ").0.extend_from_slice(line);
+        }
+        answer.0.clear();
+        self.answer = answer;
+    }
+
+    /// Answers what stands behind the port.
+    fn answer(&mut self, line: &[u8], number: u32, out: &mut Text) {
+        if self.read(line, out).is_none() {
+            out.put("error ").number(number).put(": cannot be read\n");
+        }
+    }
+
     /// Does what a line says; none if it cannot be read.
-    fn answer(&mut self, line: &[u8], out: &mut Text) -> Option<()> {
+    fn read(&mut self, line: &[u8], out: &mut Text) -> Option<()> {
         if let Some(hex) = line.strip_prefix(b"B ") {
             text::octets(hex, FRAME, &mut self.octets)?;
-            return self.event(out, |card, octets| card.frame(octets));
+            return self.event(out, |recorder, port, octets| recorder.frame(port, octets));
         }
         let mut words = text::words(line);
         let first = words.next()?;
@@ -47,28 +77,24 @@ impl Desk {
         };
         let on = text::bit(words.next()?)?;
         last(words)?;
-        self.event(out, |card, _| Ok(card.set_flag(flag, on)))
+        self.event(out, |recorder, port, _| recorder.set_flag(port, flag, on))
     }
 
     /// A line of one word.
     fn word(&mut self, word: &[u8], out: &mut Text) -> Option<()> {
         match word {
-            b"gone" => self.event(out, |card, _| card.peer_gone()),
-            b"take" => {
-                let oldest = self.card.log().notices().next();
-                match (self.card.take(), oldest) {
-                    (Ok(_), Some(notice)) => out.notice(notice),
-                    (Ok(_), None) => unreachable!("a notice was taken"),
-                    (Err(number), _) => out.put("refused ").number(number).put("\n"),
-                };
-                Some(())
-            }
-            b"show" => {
-                show(&self.card, out);
-                Some(())
-            }
-            _ => None,
-        }
+            b"gone" => return self.event(out, |recorder, port, _| recorder.peer_gone(port)),
+            b"take" => match self.recorder.take(self.port) {
+                Ok(notice) => out.notice(notice),
+                Err(number) => refused(number, out),
+            },
+            b"show" => match self.recorder.port(self.port) {
+                Ok(port) => show(self.port, port, self.recorder.log(), out),
+                Err(number) => refused(number, out),
+            },
+            _ => return None,
+        };
+        Some(())
     }
 
     /// A setting change, in words or by number.
@@ -77,33 +103,34 @@ impl Desk {
         let named = (PRIORITY_GROUPS..=APPLICATIONS)
             .find(|&feature| name == text::place_name(feature).as_bytes());
         if let Some(feature) = named {
-            let s = text::setting(feature, words)?;
-            return self.event(out, |card, _| {
-                card.change(feature, s.advertise, s.enable, s.willing, &s.parameters)
-            });
+            let setting = text::setting(feature, words)?;
+            return self
+                .event(out, |recorder, port, _| recorder.change(port, feature, &setting.lend()));
         }
-        let feature = text::number(name, 255)? as u8;
+        let feature = text::small(name, 255)?;
         let advertise = text::bit(words.next()?)?;
         let enable = text::bit(words.next()?)?;
         let willing = text::bit(words.next()?)?;
         let hex = words.next().unwrap_or(b"");
         last(words)?;
         text::octets(hex, PARAMETERS, &mut self.octets)?;
-        self.event(out, |card, octets| card.change(feature, advertise, enable, willing, octets))
+        self.event(out, |recorder, port, parameters| {
+            recorder.change(port, feature, &Setting { advertise, enable, willing, parameters })
+        })
     }
 
-    /// Does an event, and answers it with the notices that it wrote.
+    /// Does an event at the port at hand, and answers it with the notices that it wrote.
     fn event(
         &mut self,
         out: &mut Text,
-        event: impl FnOnce(&mut Card, &[u8]) -> Result<bool, u8>,
+        event: impl FnOnce(&mut Recorder, u8, &[u8]) -> Result<bool, u8>,
     ) -> Option<()> {
-        let before = self.card.log().written();
-        match event(&mut self.card, &self.octets) {
+        let before = self.recorder.log().written();
+        match event(&mut self.recorder, self.port, &self.octets) {
             Ok(wish) => out.put(if wish { "done send\n" } else { "done\n" }),
-            Err(number) => out.put("refused ").number(number).put("\n"),
+            Err(number) => refused(number, out),
         };
-        for notice in self.card.log().since(before) {
+        for notice in self.recorder.log().since(before) {
             out.notice(notice);
         }
         Some(())
@@ -111,11 +138,15 @@ impl Desk {
 
     fn write(&self, room: usize, out: &mut Text) {
         let mut output = [0; ROOM];
-        match self.card.write(&mut output[..room]) {
+        match self.recorder.write(self.port, &mut output[..room]) {
             Ok(length) => out.put("A ").octets(&output[..length]).put("\n"),
-            Err(number) => out.put("refused ").number(number).put("\n"),
+            Err(number) => refused(number, out),
         };
     }
+}
+
+fn refused(number: u8, out: &mut Text) -> &mut Text {
+    out.put("refused ").number(number).put("\n")
 }
 
 /// No word may be left.
@@ -125,13 +156,11 @@ fn last<'a>(mut words: impl Iterator<Item = &'a [u8]>) -> Option<()> {
 
 /// Parameters as octets; none at all as `-`.
 fn parameters<P: Parameters>(parameters: &P, out: &mut Text) {
-    let mut octets = [0; PARAMETERS];
-    let octets = &mut octets[..parameters.length()];
-    parameters.write(octets);
+    let octets = dump::octets(parameters);
     if octets.is_empty() {
         out.put(" -\n");
     } else {
-        out.put(" ").octets(octets).put("\n");
+        out.put(" ").octets(&octets).put("\n");
     }
 }
 
@@ -163,9 +192,9 @@ fn show_feature<P: Parameters>(name: &str, feature: &Feature<P>, out: &mut Text)
     parameters(&feature.opercfg, out);
 }
 
-fn show(card: &Card, out: &mut Text) {
-    let (flags, control, log) = (card.flags(), card.control(), card.log());
-    out.put("port").field("running", card.running());
+fn show<'a>(number: u8, port: &Port, log: &Log, out: &'a mut Text) -> &'a mut Text {
+    let (flags, control) = (port.flags(), port.control());
+    out.put("port").field("running", port.running());
     out.field("admin", flags.enabled);
     out.field("receive", flags.receive);
     out.field("transmit", flags.transmit);
@@ -177,32 +206,36 @@ fn show(card: &Card, out: &mut Text) {
     out.field("rcvdackno", control.rcvdackno);
     out.field("seen", control.peer_seen);
     out.field("duplicate", control.duplicate_control).put("\n");
-    show_feature(text::place_name(PRIORITY_GROUPS), card.groups(), out);
-    show_feature(text::place_name(FLOW_CONTROL), card.flow(), out);
-    show_feature(text::place_name(APPLICATIONS), card.applications(), out);
-    out.put("log").field("held", log.held() as u32);
-    out.field("dropped", log.dropped()).put("\n");
-    for notice in log.notices() {
+    show_feature(text::place_name(PRIORITY_GROUPS), port.groups(), out);
+    show_feature(text::place_name(FLOW_CONTROL), port.flow(), out);
+    show_feature(text::place_name(APPLICATIONS), port.applications(), out);
+    out.put("log").field("held", log.held(number) as u32);
+    out.field("dropped", log.dropped(number)).put("\n");
+    for notice in log.of(number) {
         out.notice(notice);
     }
+    out
 }
 
 fn main() -> io::Result<()> {
     let mut lines = Lines::new(io::stdin().lock(), io::stdout().lock());
     let mut out = Text::default();
-    let card = match text::settings(&mut lines, &mut out)? {
-        Ok([settings]) => Card::create(&settings.lend()).expect("valid settings"),
-        Err(bad) => {
+    let mut recorder = Recorder::blank();
+    match setup::ports(&mut lines, &mut out) {
+        Ok(ports) => {
+            for (port, settings) in ports {
+                recorder.create(port, &settings.lend()).expect("a port with valid settings");
+            }
+        }
+        Err(Failure::Settings(bad)) => {
             bad.tell(&mut out);
             return lines.write(&mut out);
         }
-    };
-    let mut desk = Desk { card, octets: Vec::new() };
-    while let Some(line) = lines.next(&mut out)? {
-        if desk.answer(line, &mut out).is_none() {
-            out.put("error ").number(lines.count);
-            out.put(": cannot be read\n");
-        }
+        Err(Failure::Input(error)) => return Err(error),
+    }
+    let mut desk = Desk { recorder, port: 1, octets: Vec::new(), answer: Text::default() };
+    while let Some((number, line)) = lines.next(&mut out)? {
+        desk.line(line, number, &mut out);
     }
     lines.write(&mut out)
 }

@@ -1,20 +1,24 @@
 //! Will two boxes agree? Settings of two ends, then the report (docs/FORMATS.md).
 
+use reference::events::OwnedSettings;
 use reference::layout::{APPLICATIONS, FLOW_CONTROL, PRIORITY_GROUPS};
 use reference::rounds::Ends;
+use reference::setup::{self, Failure};
 use reference::text::{self, Lines, Text};
-use reference::{Applications, Card, Feature, FlowControl, Groups};
+use reference::{Applications, Feature, FlowControl, Groups, Log, Port, Recorder};
 use std::io;
 
 /// Rounds that are always enough.
 const ENOUGH: u32 = 5;
+/// Each end is this port of a recorder of its own.
+const PORT: u8 = 1;
 
-fn settled(card: &Card) -> bool {
-    let control = card.control();
+fn settled(port: &Port) -> bool {
+    let control = port.control();
     control.peer_seen
         && control.rcvdackno == control.seqno
         && (PRIORITY_GROUPS..=APPLICATIONS)
-            .map(|feature| card.feature(feature))
+            .map(|feature| port.feature(feature))
             .all(|feature| !feature.advertise || feature.syncd)
 }
 
@@ -78,32 +82,32 @@ fn feature<P>(end: &str, number: u8, feature: &Feature<P>, out: &mut Text) {
     out.put(": ");
 }
 
-fn report_end(end: &str, card: &Card, out: &mut Text) {
+fn report_end(end: &str, port: &Port, log: &Log, out: &mut Text) {
     out.put(end).put(" control");
-    out.field("version", card.control().oper).put("\n");
-    feature(end, PRIORITY_GROUPS, card.groups(), out);
-    groups(&card.groups().opercfg, out);
+    out.field("version", port.control().oper).put("\n");
+    feature(end, PRIORITY_GROUPS, port.groups(), out);
+    groups(&port.groups().opercfg, out);
     out.put("\n");
-    feature(end, FLOW_CONTROL, card.flow(), out);
-    flow(&card.flow().opercfg, out);
+    feature(end, FLOW_CONTROL, port.flow(), out);
+    flow(&port.flow().opercfg, out);
     out.put("\n");
-    feature(end, APPLICATIONS, card.applications(), out);
-    applications(&card.applications().opercfg, out);
+    feature(end, APPLICATIONS, port.applications(), out);
+    applications(&port.applications().opercfg, out);
     out.put("\n");
-    for notice in card.log().notices() {
+    for notice in log.of(PORT) {
         out.put(end).put(" ").notice(notice);
     }
 }
 
 /// Whether an end advertises the feature and does not run it.
-fn disagreed(card: &Card, feature: u8) -> bool {
-    let feature = card.feature(feature);
+fn disagreed(port: &Port, feature: u8) -> bool {
+    let feature = port.feature(feature);
     feature.advertise && !feature.mode
 }
 
 fn report(ends: &Ends, rounds: u32, out: &mut Text) {
     let features: Vec<&str> = (PRIORITY_GROUPS..=APPLICATIONS)
-        .filter(|&feature| ends.end.iter().any(|card| disagreed(card, feature)))
+        .filter(|&feature| ends.ends().iter().any(|port| disagreed(port, feature)))
         .map(text::place_name)
         .collect();
     let agreed = features.is_empty();
@@ -113,22 +117,26 @@ fn report(ends: &Ends, rounds: u32, out: &mut Text) {
         out.put(": ").put(&features.join(" "));
     }
     out.put("\n");
-    report_end("A", &ends.end[0], out);
-    report_end("B", &ends.end[1], out);
+    report_end("A", ends.end(0), ends.recorder[0].log(), out);
+    report_end("B", ends.end(1), ends.recorder[1].log(), out);
+}
+
+fn recorder(settings: &OwnedSettings) -> (Recorder, u8) {
+    let mut recorder = Recorder::blank();
+    recorder.create(PORT, &settings.lend()).expect("valid settings");
+    (recorder, PORT)
 }
 
 fn main() -> io::Result<()> {
     let mut lines = Lines::new(io::stdin().lock(), io::stdout().lock());
     let mut out = Text::default();
-    match text::settings(&mut lines, &mut out)? {
-        Err(bad) => bad.tell(&mut out),
-        Ok(settings) => {
-            let [a, b]: [_; 2] = settings;
-            let create = |s: &reference::events::OwnedSettings| Card::create(&s.lend());
-            let (a, b) = (create(&a), create(&b));
-            let mut ends = Ends::new(a.expect("valid settings"), b.expect("valid settings"));
+    match setup::two_ends(&mut lines, &mut out) {
+        Err(Failure::Input(error)) => return Err(error),
+        Err(Failure::Settings(bad)) => bad.tell(&mut out),
+        Ok([a, b]) => {
+            let mut ends = Ends::new(recorder(&a), recorder(&b));
             let mut rounds = 0;
-            while rounds < ENOUGH && !ends.end.iter().all(settled) {
+            while rounds < ENOUGH && !ends.ends().into_iter().all(settled) {
                 ends.round();
                 rounds += 1;
             }

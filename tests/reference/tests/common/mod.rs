@@ -3,7 +3,9 @@
 
 use reference::events::{assemble, OwnedSetting, OwnedSettings};
 use reference::layout::LONGEST_FRAME;
-use reference::{Card, Reason};
+use reference::rounds::Ends;
+use reference::{Flag, Log, Notice, Port, Reason, Recorder, Setting};
+use std::ops::Deref;
 
 pub fn hex(text: &str) -> Vec<u8> {
     let digits: Vec<u8> = text.bytes().filter(|b| !b.is_ascii_whitespace()).collect();
@@ -53,18 +55,111 @@ pub fn w2_settings() -> OwnedSettings {
     }
 }
 
-pub fn card(settings: &OwnedSettings) -> Card {
-    Card::create(&settings.lend()).unwrap()
+/// A port of a recorder of its own, so that tests of one port need not name it.
+#[derive(Clone, Debug)]
+pub struct OnePort(pub Recorder);
+
+/// Its number; any of the four would do.
+pub const NUMBER: u8 = 3;
+
+impl OnePort {
+    pub fn frame(&mut self, octets: &[u8]) -> Result<bool, u8> {
+        self.0.frame(NUMBER, octets)
+    }
+
+    pub fn peer_gone(&mut self) -> Result<bool, u8> {
+        self.0.peer_gone(NUMBER)
+    }
+
+    pub fn set_flag(&mut self, flag: Flag, on: bool) -> bool {
+        self.0.set_flag(NUMBER, flag, on).unwrap()
+    }
+
+    pub fn change(
+        &mut self,
+        feature: u8,
+        advertise: bool,
+        enable: bool,
+        willing: bool,
+        parameters: &[u8],
+    ) -> Result<bool, u8> {
+        self.0.change(NUMBER, feature, &Setting { advertise, enable, willing, parameters })
+    }
+
+    pub fn write(&self, out: &mut [u8]) -> Result<usize, u8> {
+        self.0.write(NUMBER, out)
+    }
+
+    pub fn take(&mut self) -> Result<(u8, u8), u8> {
+        self.0.take(NUMBER).map(|notice| {
+            assert_eq!(notice.port, NUMBER);
+            (notice.number, notice.feature)
+        })
+    }
+
+    pub fn held(&self) -> usize {
+        self.0.log().held(NUMBER)
+    }
+
+    pub fn dropped(&self) -> u32 {
+        self.0.log().dropped(NUMBER)
+    }
+
+    pub fn set_numbers(&mut self, seqno: u32, ackno: u32, rcvdackno: u32, feature: [u32; 3]) {
+        self.0.set_numbers(NUMBER, seqno, ackno, rcvdackno, feature).unwrap();
+    }
+
+    pub fn set_dropped(&mut self, dropped: u32) {
+        self.0.set_dropped(NUMBER, dropped).unwrap();
+    }
+
+    pub fn port_dump(&self) -> Vec<u8> {
+        Port::dump(self)
+    }
+
+    /// The port and the log.
+    pub fn dump(&self) -> Vec<u8> {
+        [self.port_dump(), self.0.log().dump()].concat()
+    }
 }
 
-pub fn w2_card() -> Card {
-    card(&w2_settings())
+impl Deref for OnePort {
+    type Target = Port;
+
+    fn deref(&self) -> &Port {
+        self.0.port(NUMBER).unwrap()
+    }
 }
 
-/// What the card would write; none if stopped.
-pub fn written(card: &Card) -> Option<Vec<u8>> {
+pub fn port(settings: &OwnedSettings) -> OnePort {
+    let mut recorder = Recorder::blank();
+    assert_eq!(recorder.create(NUMBER, &settings.lend()), Ok(true));
+    OnePort(recorder)
+}
+
+/// The number with which a creation is refused.
+pub fn creation_refused(settings: &OwnedSettings) -> Option<u8> {
+    Recorder::blank().create(NUMBER, &settings.lend()).err()
+}
+
+/// Two recorders with a port each.
+pub fn ends(a: &OwnedSettings, b: &OwnedSettings) -> Ends {
+    Ends::new((port(a).0, NUMBER), (port(b).0, NUMBER))
+}
+
+pub fn w2_port() -> OnePort {
+    port(&w2_settings())
+}
+
+/// What the port would write; none if stopped.
+pub fn written(port: &OnePort) -> Option<Vec<u8>> {
+    written_at(&port.0, NUMBER)
+}
+
+/// What a recorder's port would write; none if stopped.
+pub fn written_at(recorder: &Recorder, port: u8) -> Option<Vec<u8>> {
     let mut octets = [0; LONGEST_FRAME];
-    card.write(&mut octets).ok().map(|length| octets[..length].to_vec())
+    recorder.write(port, &mut octets).ok().map(|length| octets[..length].to_vec())
 }
 
 pub type SubTlvs = Vec<(u8, Vec<u8>)>;
@@ -93,33 +188,79 @@ pub fn frame(sub_tlvs: &SubTlvs) -> Vec<u8> {
     assemble(sub_tlvs)
 }
 
-/// A W2 card that got this frame.
-pub fn after(sub_tlvs: &SubTlvs) -> Card {
-    let mut card = w2_card();
-    card.frame(&frame(sub_tlvs)).unwrap();
-    card
+/// A W2 port that got this frame.
+pub fn after(sub_tlvs: &SubTlvs) -> OnePort {
+    let mut port = w2_port();
+    port.frame(&frame(sub_tlvs)).unwrap();
+    port
 }
 
-pub fn reasons(card: &Card) -> [Reason; 3] {
-    [2, 3, 4].map(|number| card.feature(number).reason)
+pub fn reasons(port: &Port) -> [Reason; 3] {
+    [2, 3, 4].map(|number| port.feature(number).reason)
 }
 
 /// SeqNo, AckNo, RcvdAckNo.
-pub fn numbers(card: &Card) -> (u32, u32, u32) {
-    let control = card.control();
+pub fn numbers(port: &Port) -> (u32, u32, u32) {
+    let control = port.control();
     (control.seqno, control.ackno, control.rcvdackno)
 }
 
 /// Takes all notices.
-pub fn notices(card: &mut Card) -> Vec<(u8, u8)> {
-    std::iter::from_fn(|| card.take().ok()).collect()
+pub fn notices(port: &mut OnePort) -> Vec<(u8, u8)> {
+    std::iter::from_fn(|| port.take().ok()).collect()
 }
 
-/// A W2 card all of whose features are agreed and Syncd, numbers 1, 1, 1.
-pub fn settled_card() -> Card {
-    let card = after(&sub_tlvs(1, 1, 0x80));
-    assert!((2..=4).all(|n| card.feature(n).syncd));
-    assert_eq!(numbers(&card), (1, 1, 1));
-    assert_eq!(reasons(&card), [Reason::Agreed; 3]);
-    card
+/// A W2 port all of whose features are agreed and Syncd, numbers 1, 1, 1.
+pub fn settled_port() -> OnePort {
+    let port = after(&sub_tlvs(1, 1, 0x80));
+    assert!((2..=4).all(|n| port.feature(n).syncd));
+    assert_eq!(numbers(&port), (1, 1, 1));
+    assert_eq!(reasons(&port), [Reason::Agreed; 3]);
+    port
+}
+
+/// The log by the words of document 02, E10: a plain list.
+#[derive(Clone, Debug, Default, PartialEq, Eq)]
+pub struct PlainLog {
+    pub held: Vec<Notice>,
+    pub dropped: [u32; 4],
+}
+
+impl PlainLog {
+    pub fn of(log: &Log) -> Self {
+        PlainLog {
+            held: log.notices().collect(),
+            dropped: [1, 2, 3, 4].map(|port| log.dropped(port)),
+        }
+    }
+
+    pub fn count(&self, port: u8) -> usize {
+        self.held.iter().filter(|notice| notice.port == port).count()
+    }
+
+    /// Writes a notice; says what a full log dropped for it.
+    pub fn write(&mut self, notice: Notice) -> Option<Dropped> {
+        let mut dropped = None;
+        if self.held.len() == 64 {
+            let own = self.count(notice.port);
+            let most = (1..=4).map(|port| self.count(port)).max().unwrap();
+            let holding_most: Vec<u8> = (1..=4).filter(|&port| self.count(port) == most).collect();
+            let loser = if own >= 16 { notice.port } else { holding_most[0] };
+            let oldest = self.held.iter().position(|held| held.port == loser).unwrap();
+            self.held.remove(oldest);
+            let count = &mut self.dropped[usize::from(loser) - 1];
+            *count = count.saturating_add(1);
+            dropped = Some(Dropped { loser, own, tie: own < 16 && holding_most.len() > 1 });
+        }
+        self.held.push(notice);
+        dropped
+    }
+}
+
+/// Who lost a notice, how many the writer held, and whether several others held most.
+#[derive(Clone, Copy, Debug, PartialEq, Eq)]
+pub struct Dropped {
+    pub loser: u8,
+    pub own: usize,
+    pub tie: bool,
 }

@@ -7,8 +7,8 @@ use Rattle.port.proofs.events.create.Tie as tie
 valid-local-requires : tie.Need-valid-local-requires
 valid-local-requires c κs = search needs
 
-no-port-requires : tie.Need-no-port-requires
-no-port-requires c κs = search needs
+refuse-requires : tie.Need-refuse-requires
+refuse-requires c κs = search needs
 
 returns : tie.Need-returns
 returns c = search created-groups
@@ -16,8 +16,8 @@ returns c = search created-groups
 valid-local-requires-2 : tie.Need-valid-local-requires-2
 valid-local-requires-2 c κs = search needs
 
-no-port-requires-2 : tie.Need-no-port-requires-2
-no-port-requires-2 c κs = search needs
+refuse-requires-2 : tie.Need-refuse-requires-2
+refuse-requires-2 c κs = search needs
 
 returns-2 : tie.Need-returns-2
 returns-2 c = search created-flow
@@ -25,8 +25,8 @@ returns-2 c = search created-flow
 valid-local-requires-3 : tie.Need-valid-local-requires-3
 valid-local-requires-3 c κs = search needs
 
-no-port-requires-3 : tie.Need-no-port-requires-3
-no-port-requires-3 c κs = search needs
+refuse-requires-3 : tie.Need-refuse-requires-3
+refuse-requires-3 c κs = search needs
 
 returns-3 : tie.Need-returns-3
 returns-3 c = search created-applications
@@ -45,7 +45,7 @@ make-requires c κs = search needs
 
 returns-4 : tie.Need-returns-4
 returns-4 c =
-    created-made _ _ _ _ _ _ _
+    created-made _ _ _ _ _ _ _ _
     (c .before .before .before .before .before .before .before .before .before .valid-local .ensures) (c .before .before .before .before .before .before .before .before .if1 .left)
     (c .before .before .before .before .before .before .before .valid-local2 .ensures) (c .before .before .before .before .before .before .if2 .left)
     (c .before .before .before .before .before .valid-local3 .ensures) (c .before .before .before .before .if3 .left)
@@ -57,13 +57,13 @@ create-spec =
     tie.close
     (tie.spec
     valid-local-requires
-    no-port-requires
+    refuse-requires
     returns
     valid-local-requires-2
-    no-port-requires-2
+    refuse-requires-2
     returns-2
     valid-local-requires-3
-    no-port-requires-3
+    refuse-requires-3
     returns-3
     setting-of-requires
     setting-of-requires-2

@@ -7,6 +7,9 @@ use Rattle.port.proofs.events.make.Tie as tie
 start-requires : tie.Need-start-requires
 start-requires c κs = search needs
 
+asks-requires : tie.Need-asks-requires
+asks-requires c κs = search needs
+
 silent-requires : tie.Need-silent-requires
 silent-requires c κs = search needs
 
@@ -14,4 +17,4 @@ returns : tie.Need-returns
 returns c = search made-is
 
 pub make-spec : {M : Type 1} → statement M
-make-spec = tie.close (tie.spec start-requires silent-requires returns)
+make-spec = tie.close (tie.spec start-requires asks-requires silent-requires returns)

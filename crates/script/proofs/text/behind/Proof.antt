@@ -4,21 +4,17 @@ use borrow.Author.Needs.{needs}
 use Rattle.script.proofs.text.behind.Statement.{statement}
 use Rattle.script.proofs.text.behind.Tie as tie
 
+trim-requires : tie.Need-trim-requires
+trim-requires c κs = search needs
+
 run-requires : tie.Need-run-requires
 run-requires c κs = search needs
 
 from-requires : tie.Need-from-requires
 from-requires c κs = search needs
 
-run-requires-2 : tie.Need-run-requires-2
-run-requires-2 c κs = search needs
-
-from-requires-2 : tie.Need-from-requires-2
-from-requires-2 c κs = search needs
-
 returns : tie.Need-returns
 returns c = search behind-found
 
 pub behind-spec : {M : Type 1} → statement M
-behind-spec =
-    tie.close (tie.spec run-requires from-requires run-requires-2 from-requires-2 returns)
+behind-spec = tie.close (tie.spec trim-requires run-requires from-requires returns)

@@ -4,14 +4,11 @@ use borrow.Author.Needs.{needs}
 use Rattle.script.proofs.text.word.Statement.{statement}
 use Rattle.script.proofs.text.word.Tie as tie
 
+trim-requires : tie.Need-trim-requires
+trim-requires c κs = search needs
+
 run-requires : tie.Need-run-requires
 run-requires c κs = search needs
-
-from-requires : tie.Need-from-requires
-from-requires c κs = search needs
-
-run-requires-2 : tie.Need-run-requires-2
-run-requires-2 c κs = search needs
 
 first-requires : tie.Need-first-requires
 first-requires c κs = search needs
@@ -20,4 +17,4 @@ returns : tie.Need-returns
 returns c = search word-found
 
 pub word-spec : {M : Type 1} → statement M
-word-spec = tie.close (tie.spec run-requires from-requires run-requires-2 first-requires returns)
+word-spec = tie.close (tie.spec trim-requires run-requires first-requires returns)

@@ -4,22 +4,43 @@ use Rattle.trial.proofs.speed.trial_handle_many.Statement.{statement}
 use Rattle.trial.proofs.speed.trial_handle_many.Tie as tie
 
 abbrev Inv-loop : tie.InvT-loop
-Inv-loop creation frames size times card₀ sum₀ at₀ left₀ card sum at left = Unit {0}
+Inv-loop creation frames size times held₀ n₀ sum₀ at₀ left₀ held n sum at left = Unit {0}
 
 abbrev μ-loop : tie.MeasureT-loop
-μ-loop creation frames size times card₀ sum₀ at₀ left₀ card sum at left = left
+μ-loop creation frames size times held₀ n₀ sum₀ at₀ left₀ held n sum at left = left
 
-create-requires : tie.Need-create-requires Inv-loop μ-loop
-create-requires c κs = search needs
+made-four-requires : tie.Need-made-four-requires Inv-loop μ-loop
+made-four-requires c κs = search needs
 
 loop-holds : tie.Need-loop-holds Inv-loop μ-loop
 loop-holds c = tt
 
+place-of-requires : tie.Need-place-of-requires Inv-loop μ-loop
+place-of-requires c κs = search needs
+
+mul-apply : tie.Need-mul-apply Inv-loop μ-loop
+mul-apply c = search needs
+
+element-copy-out-apply : tie.Need-element-copy-out-apply Inv-loop μ-loop
+element-copy-out-apply c = search needs
+
 frame-at-requires : tie.Need-frame-at-requires Inv-loop μ-loop
 frame-at-requires c κs = search needs
 
-handle-requires : tie.Need-handle-requires Inv-loop μ-loop
-handle-requires c κs = search needs
+apply-requires : tie.Need-apply-requires Inv-loop μ-loop
+apply-requires c κs = search needs
+
+mul-port : tie.Need-mul-port Inv-loop μ-loop
+mul-port c = search needs
+
+element-set-from-port : tie.Need-element-set-from-port Inv-loop μ-loop
+element-set-from-port c = search needs
+
+is-silent-requires : tie.Need-is-silent-requires Inv-loop μ-loop
+is-silent-requires c κs = search needs
+
+keep-requires : tie.Need-keep-requires Inv-loop μ-loop
+keep-requires c κs = search needs
 
 told-requires : tie.Need-told-requires Inv-loop μ-loop
 told-requires c κs = search needs
@@ -29,6 +50,9 @@ wrapping-add-u64-requires c κs = search needs
 
 place-behind-requires : tie.Need-place-behind-requires Inv-loop μ-loop
 place-behind-requires c κs = search needs
+
+port-behind-requires : tie.Need-port-behind-requires Inv-loop μ-loop
+port-behind-requires c κs = search needs
 
 sub-left : tie.Need-sub-left Inv-loop μ-loop
 sub-left c = search needs
@@ -48,13 +72,21 @@ trial-handle-many-spec =
     (tie.spec
     Inv-loop
     μ-loop
-    create-requires
+    made-four-requires
     loop-holds
+    place-of-requires
+    mul-apply
+    element-copy-out-apply
     frame-at-requires
-    handle-requires
+    apply-requires
+    mul-port
+    element-set-from-port
+    is-silent-requires
+    keep-requires
     told-requires
     wrapping-add-u64-requires
     place-behind-requires
+    port-behind-requires
     sub-left
     loop-less
     loop-again

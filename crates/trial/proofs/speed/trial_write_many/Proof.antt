@@ -6,16 +6,25 @@ use Rattle.trial.proofs.speed.trial_write_many.Statement.{statement}
 use Rattle.trial.proofs.speed.trial_write_many.Tie as tie
 
 abbrev Inv-loop : tie.InvT-loop
-Inv-loop creation times out₀ made sum₀ left₀ out sum left = length out ≡ length out₀
+Inv-loop creation times out₀ held n₀ sum₀ left₀ out n sum left = length out ≡ length out₀
 
 abbrev μ-loop : tie.MeasureT-loop
-μ-loop creation times out₀ made sum₀ left₀ out sum left = left
+μ-loop creation times out₀ held n₀ sum₀ left₀ out n sum left = left
 
-create-requires : tie.Need-create-requires Inv-loop μ-loop
-create-requires c κs = search needs
+made-four-requires : tie.Need-made-four-requires Inv-loop μ-loop
+made-four-requires c κs = search needs
 
 loop-holds : tie.Need-loop-holds Inv-loop μ-loop
 loop-holds c = search needs
+
+place-of-requires : tie.Need-place-of-requires Inv-loop μ-loop
+place-of-requires c κs = search needs
+
+mul-write : tie.Need-mul-write Inv-loop μ-loop
+mul-write c = search needs
+
+element-copy-out-write : tie.Need-element-copy-out-write Inv-loop μ-loop
+element-copy-out-write c = search needs
 
 write-requires : tie.Need-write-requires Inv-loop μ-loop
 write-requires c κs = search needs
@@ -25,6 +34,9 @@ wrote-requires c κs = search needs
 
 wrapping-add-u64-requires : tie.Need-wrapping-add-u64-requires Inv-loop μ-loop
 wrapping-add-u64-requires c κs = search needs
+
+port-behind-requires : tie.Need-port-behind-requires Inv-loop μ-loop
+port-behind-requires c κs = search needs
 
 sub-left : tie.Need-sub-left Inv-loop μ-loop
 sub-left c = search needs
@@ -47,11 +59,15 @@ trial-write-many-spec =
     (tie.spec
     Inv-loop
     μ-loop
-    create-requires
+    made-four-requires
     loop-holds
+    place-of-requires
+    mul-write
+    element-copy-out-write
     write-requires
     wrote-requires
     wrapping-add-u64-requires
+    port-behind-requires
     sub-left
     loop-less
     loop-again

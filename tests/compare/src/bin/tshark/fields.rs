@@ -1,4 +1,4 @@
-//! A frame field by field, in the dissector's names: what document 01's layout makes of the card
+//! A frame field by field, in the dissector's names: what document 01's layout makes of the port
 //! that wrote it.
 //!
 //! Known differences of tshark 4.0 from document 01:
@@ -13,7 +13,7 @@
 //!    more as its trailer. The fields are shown all the same.
 //! 4. A control's length is shown but not followed: frames have to be well-formed.
 
-use crate::cards::Told;
+use crate::ports::Told;
 use reference::events::{OwnedSetting, OwnedSettings};
 use reference::layout::{self, CONTROL, CONTROL_LENGTH, FLOW_CONTROL, PRIORITY_GROUPS};
 use reference::layout::{ENABLE, ERROR, FEATURE_HEAD, OUI, SUBTYPE, TLV_TYPE, WILLING};
@@ -39,7 +39,7 @@ pub struct Layout {
 }
 
 impl Layout {
-    /// The frame of a card with these settings in this state, and the end of the LLDPDU behind it.
+    /// The frame of a port with these settings in this state, and the end of the LLDPDU behind it.
     pub fn of(settings: &OwnedSettings, state: &Told) -> Self {
         let features = (PRIORITY_GROUPS..).zip(&settings.feature);
         let advertised = features.filter(|(_, (_, setting))| setting.advertise);

@@ -1,4 +1,4 @@
-//! What a card that is given a frame has to say of its peer, if the frame is as the dissector
+//! What a port that is given a frame has to say of its peer, if the frame is as the dissector
 //! shows it.
 
 use crate::fields::{map_shown, Field, Fields};
@@ -6,7 +6,7 @@ use reference::layout::{APPLICATIONS, CONTROL, FLOW_CONTROL, OUI, PRIORITY_GROUP
 use reference::text::place_name;
 use reference::Reason;
 
-/// A card that is given the frame: its highest versions, and what it has to say then, by the names
+/// A port that is given the frame: its highest versions, and what it has to say then, by the names
 /// of `words::named`.
 pub struct Receiver {
     pub control_max: u8,
@@ -14,7 +14,7 @@ pub struct Receiver {
     pub expected: Vec<(String, Vec<u8>)>,
 }
 
-/// Three, since a card holds no received version: the control's Oper of the first is the received
+/// Three, since a port holds no received version: the control's Oper of the first is the received
 /// Max, so are the features' Opers of the second, and the third holds the peer only if each
 /// received Oper is its own Max.
 pub fn receivers(fields: &Fields) -> [Receiver; 3] {
@@ -99,7 +99,7 @@ impl<'a> SubTlv<'a> {
         (self.value(name) as u32).to_be_bytes().to_vec()
     }
 
-    /// The parameters of a feature as a card holds them.
+    /// The parameters of a feature as a port holds them.
     fn parameters(&self) -> Vec<u8> {
         match self.octet("dcbx.type") {
             PRIORITY_GROUPS => {

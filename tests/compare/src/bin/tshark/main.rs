@@ -1,21 +1,21 @@
 //! Frames of the proved engine beside what tshark shows of them: every field with its place and
-//! octets against the settings and state of the card that wrote the frame, and against what a card
+//! octets against the settings and state of the port that wrote the frame, and against what a port
 //! that is given the frame holds of its peer. Then the same frames with others' entries among their
-//! applications (document 02, E3): tshark shows every entry with its OUI, and a card that is given
+//! applications (document 02, E3): tshark shows every entry with its OUI, and a port that is given
 //! the frame holds those shown under 00 1b 21. `make tshark` from the top.
 //!
 //! COMPARE_SEED and COMPARE_FRAMES give another seed and another number of frames.
 
-mod cards;
 mod dissector;
 mod fields;
 mod held;
+mod ports;
 
-use cards::Written;
 use compare::environment;
 use compare::words::hex;
 use dissector::Shown;
 use fields::{Field, Layout};
+use ports::Written;
 use reference::events::{assemble, random};
 use reference::layout::{SubTlv, SubTlvs, APPLICATIONS, FEATURE_HEAD};
 use reference::rng::XorShift;
@@ -30,12 +30,12 @@ const FRAMES: u64 = 5_000;
 const FIXED: [&str; 4] =
     ["dcbx.feature.app.oui", "dcbx.feature.subtype", "dcbx.proto", "orgtlv.oui"];
 
-/// Where what is shown of a frame differs from the card that wrote it.
+/// Where what is shown of a frame differs from the port that wrote it.
 fn compare_written(written: &Written, shown: &Shown) -> Vec<String> {
     let layout = Layout::of(&written.settings, &written.state);
     let mut differences = shown.strange.clone();
     if layout.octets != [written.frame.as_slice(), &dissector::END].concat() {
-        differences.push(format!("the card has, with the LLDPDU's end: {}", hex(&layout.octets)));
+        differences.push(format!("the port has, with the LLDPDU's end: {}", hex(&layout.octets)));
     }
     let reading = |field: Option<&Field>| match field {
         Some(Field { octets, value }) => format!("{value} ({})", hex(octets)),
@@ -47,13 +47,13 @@ fn compare_written(written: &Written, shown: &Shown) -> Vec<String> {
         if ours != theirs {
             let (ours, theirs) = (reading(ours), reading(theirs));
             let (at, name) = place;
-            differences.push(format!("lldp.{name} at {at}: the card has {ours}, tshark {theirs}"));
+            differences.push(format!("lldp.{name} at {at}: the port has {ours}, tshark {theirs}"));
         }
     }
     differences
 }
 
-/// Where what is shown of a frame differs from what cards that are given it say; counts the values.
+/// Where what is shown of a frame differs from what ports that are given it say; counts the values.
 fn compare_received(
     rng: &mut XorShift,
     frame: &[u8],
@@ -62,7 +62,7 @@ fn compare_received(
 ) -> Vec<String> {
     let mut differences = Vec::new();
     for receiver in held::receivers(&shown.fields) {
-        let told = cards::receive(rng, &receiver, frame);
+        let told = ports::receive(rng, &receiver, frame);
         *count += receiver.expected.len();
         for (name, expected) in receiver.expected {
             let held = told.get(&name);
@@ -115,7 +115,7 @@ fn main() -> ExitCode {
     let mut rng = XorShift::new(seed);
     let mut written: Vec<Written> = Vec::new();
     for _ in 0..frames {
-        written.push(cards::write(&mut rng, written.last()));
+        written.push(ports::write(&mut rng, written.last()));
     }
     let file = Path::new(env!("CARGO_MANIFEST_DIR")).join("target/tshark.pcap");
     dissector::write_capture(&file, written.iter().map(|written| written.frame.as_slice()));

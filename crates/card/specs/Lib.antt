@@ -1,9 +1,0 @@
-pub mod Card
-pub mod CardLaws
-pub mod Sound
-pub mod Calls
-pub mod Rows
-pub mod Table
-pub mod Demand1
-pub mod Reachable
-pub mod Logged

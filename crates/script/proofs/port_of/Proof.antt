@@ -1,0 +1,27 @@
+-- `port_of` meets its contract. Assumes nothing.
+use Rattle.script.specs.LinesLaws.{port-none, port-given}
+use borrow.Author.Needs.{needs}
+use Rattle.script.proofs.port_of.Statement.{statement}
+use Rattle.script.proofs.port_of.Tie as tie
+
+port-number-requires : tie.Need-port-number-requires
+port-number-requires c κs = search needs
+
+enum-told : tie.Need-enum-told
+enum-told c = search needs
+
+enum-known-n : tie.Need-enum-known-n
+enum-known-n c = search needs
+
+low-requires : tie.Need-low-requires
+low-requires c κs = search needs
+
+returns : tie.Need-returns
+returns c = search port-none
+
+returns-2 : tie.Need-returns-2
+returns-2 c = search port-given
+
+pub port-of-spec : {M : Type 1} → statement M
+port-of-spec =
+    tie.close (tie.spec port-number-requires enum-told enum-known-n low-requires returns returns-2)

@@ -1,0 +1,73 @@
+-- `trial::speed::trial_handle_alone` is safe and ends. Assumes nothing.
+use borrow.Author.Needs.{needs}
+use Rattle.trial.proofs.speed.trial_handle_alone.Statement.{statement}
+use Rattle.trial.proofs.speed.trial_handle_alone.Tie as tie
+
+abbrev Inv-loop : tie.InvT-loop
+Inv-loop creation frames size times port₀ log₀ sum₀ at₀ left₀ port log sum at left = Unit {0}
+
+abbrev μ-loop : tie.MeasureT-loop
+μ-loop creation frames size times port₀ log₀ sum₀ at₀ left₀ port log sum at left = left
+
+made-requires : tie.Need-made-requires Inv-loop μ-loop
+made-requires c κs = search needs
+
+empty-requires : tie.Need-empty-requires Inv-loop μ-loop
+empty-requires c κs = search needs
+
+loop-holds : tie.Need-loop-holds Inv-loop μ-loop
+loop-holds c = tt
+
+frame-at-requires : tie.Need-frame-at-requires Inv-loop μ-loop
+frame-at-requires c κs = search needs
+
+apply-requires : tie.Need-apply-requires Inv-loop μ-loop
+apply-requires c κs = search needs
+
+is-silent-requires : tie.Need-is-silent-requires Inv-loop μ-loop
+is-silent-requires c κs = search needs
+
+keep-requires : tie.Need-keep-requires Inv-loop μ-loop
+keep-requires c κs = search needs
+
+told-requires : tie.Need-told-requires Inv-loop μ-loop
+told-requires c κs = search needs
+
+wrapping-add-u64-requires : tie.Need-wrapping-add-u64-requires Inv-loop μ-loop
+wrapping-add-u64-requires c κs = search needs
+
+place-behind-requires : tie.Need-place-behind-requires Inv-loop μ-loop
+place-behind-requires c κs = search needs
+
+sub-left : tie.Need-sub-left Inv-loop μ-loop
+sub-left c = search needs
+
+loop-less : tie.Need-loop-less Inv-loop μ-loop
+loop-less c = search needs
+
+loop-again : tie.Need-loop-again Inv-loop μ-loop
+loop-again c = tt
+
+returns : tie.Need-returns Inv-loop μ-loop
+returns c = search needs
+
+pub trial-handle-alone-spec : {M : Type 1} → statement M
+trial-handle-alone-spec =
+    tie.close
+    (tie.spec
+    Inv-loop
+    μ-loop
+    made-requires
+    empty-requires
+    loop-holds
+    frame-at-requires
+    apply-requires
+    is-silent-requires
+    keep-requires
+    told-requires
+    wrapping-add-u64-requires
+    place-behind-requires
+    sub-left
+    loop-less
+    loop-again
+    returns)
