@@ -1,4 +1,5 @@
 # make run: will two boxes agree? make test: the gate. make bench: speed beside the reference implementation.
+# make library, make install: libsternquast.a for C, and with PREFIX and DESTDIR its header and pkg-config file beside it.
 # make tshark: frames beside what tshark shows of them. make check-time: how long each crate's check takes.
 
 SHELL := /bin/bash -o pipefail
@@ -6,8 +7,12 @@ CARGO := cargo --offline --quiet
 REFERENCE := --release --manifest-path tests/reference/Cargo.toml
 COMPARE := --release --manifest-path tests/compare/Cargo.toml
 VERDICT := .ci/verdict
+VERSION := 0.1
+PREFIX ?= /usr/local
+LIBRARY := target/staticlib/libsternquast.a
+CHECKED := gcc -std=c11 -Wall -Wextra -Werror -g -fsanitize=address,undefined -fno-sanitize-recover=all
 
-.PHONY: run test bench check-time tshark
+.PHONY: run test library install judge bench check-time tshark
 
 # Only what rt says of each crate is shown; the rest stays in target/log.
 run:
@@ -20,9 +25,26 @@ test:
 	$(CARGO) test $(REFERENCE)
 	rt ci | tee $(VERDICT)
 	rt staticlib trial
+	$(MAKE) judge
+	target/judge/test
 	$(CARGO) test $(COMPARE) -- --nocapture
 	tests/runs/check.sh target/bin
 	@tail -n 1 $(VERDICT)
+
+library:
+	rt staticlib sternquast
+
+install: library
+	install -d $(DESTDIR)$(PREFIX)/include $(DESTDIR)$(PREFIX)/lib/pkgconfig
+	install -m 644 include/sternquast.h $(DESTDIR)$(PREFIX)/include
+	install -m 644 $(LIBRARY) $(DESTDIR)$(PREFIX)/lib
+	sed 's|@PREFIX@|$(PREFIX)|; s|@VERSION@|$(VERSION)|' packaging/sternquast.pc.in > $(DESTDIR)$(PREFIX)/lib/pkgconfig/sternquast.pc
+
+# The C programs of the gate, built over an installed library.
+judge:
+	$(MAKE) install DESTDIR=target/judge PREFIX=
+	$(CHECKED) -Itarget/judge/include tests/judge/judge.c -Ltarget/judge/lib -lsternquast -o target/judge/test
+	$(CHECKED) -Itarget/judge/include examples/judge.c -Ltarget/judge/lib -lsternquast -o target/judge/example
 
 bench:
 	rt staticlib trial

@@ -24,7 +24,7 @@ pub struct Step {
 pub fn answered(out: &mut [u8], at: usize, w: PortWord, e: Event) -> usize {
     let answer = e.answer;
     match answer {
-        Answer::Refused(r) => report::answers::refused(out, at, r),
+        Answer::Refused(r, place) => report::answers::refused_at(out, at, r, place),
         Answer::Done(send) => {
             let behind = report::answers::done(out, at, send);
             let end = report::answers::raised(out, behind, e.notices);

@@ -246,7 +246,7 @@ fn undue_line(s: Settings, again: bool) -> u64 {
 fn refusal_of(a: Answer) -> u8 {
     match a {
         Answer::Done(_) => 0,
-        Answer::Refused(why) => tlv::refusal_number(why),
+        Answer::Refused(why, _) => tlv::refusal_number(why),
     }
 }
 

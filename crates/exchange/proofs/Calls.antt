@@ -41,18 +41,18 @@ write-leaves p out n e = write-by p out n (running p) (length out below length (
 
 -- ---- refused frames
 
-refused-by : (p : Port) (o : List ℕ) (why : Refusal) (a b : Bool) (x : Reading) →
-    (if not a then refused refusal.NotRunning p else if b then refused refusal.SeveralNeighbours p else given o x p) .answer ≡ answer.Refused why →
+refused-by : (p : Port) (o : List ℕ) (why : Refusal) (place : ℕ) (a b : Bool) (x : Reading) →
+    (if not a then refused refusal.NotRunning p else if b then refused refusal.SeveralNeighbours p else given o x p) .answer ≡ answer.Refused why place →
     (if not a then refused refusal.NotRunning p else if b then refused refusal.SeveralNeighbours p else given o x p) .port ≡ p
 unfolding given accepted frameEvent
-refused-by p o why false b x e = refl
-refused-by p o why true true x e = refl
-refused-by p o why true false (Refused y) e = refl
-refused-by p o why true false (Accepted c) e = cc
+refused-by p o why place false b x e = refl
+refused-by p o why place true true x e = refl
+refused-by p o why place true false (Refused y i) e = refl
+refused-by p o why place true false (Accepted c) e = cc
 
-pub refused-stays : (p : Port) (o : List ℕ) (why : Refusal) → handled p o .answer ≡ answer.Refused why → handled p o .port ≡ p
+pub refused-stays : (p : Port) (o : List ℕ) (why : Refusal) (place : ℕ) → handled p o .answer ≡ answer.Refused why place → handled p o .port ≡ p
 unfolding handled
-refused-stays p o why e = refused-by p o why (running p) (p .several) (readFrame o) e
+refused-stays p o why place e = refused-by p o why place (running p) (p .several) (readFrame o) e
 
 -- ---- frames that are delivered
 

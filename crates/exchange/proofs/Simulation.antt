@@ -87,8 +87,8 @@ module _ (s t : Settings) where
   unfolding exec step
   follows (refused (write left out)) c d a h = rw (write-none (c .l) out (c .from-l) a) h
   follows (refused (write right out)) c d a h = rw (write-none (c .r) out (c .from-r) a) h
-  follows (refused (frame left o)) c d a h = rw (refused-stays (c .l) o (a .0) (a .1)) h
-  follows (refused (frame right o)) c d a h = rw (refused-stays (c .r) o (a .0) (a .1)) h
+  follows (refused (frame left o)) c d a h = rw (refused-stays (c .l) o (a .0) (a .1) (a .2)) h
+  follows (refused (frame right o)) c d a h = rw (refused-stays (c .r) o (a .0) (a .1) (a .2)) h
   follows (writes left out) c d a h =
       record {
         runs-l = h .runs-l;

@@ -145,7 +145,7 @@ abbrev pub Accepts : Port → List ℕ → Type 0
 Accepts p out = (n : ℕ) × (written p out ≡ wrote.Octets n)
 
 abbrev pub RefusesFrame : Port → List ℕ → Type 0
-RefusesFrame p o = (why : Refusal) × (handled p o .answer ≡ answer.Refused why)
+RefusesFrame p o = (why : Refusal) × (place : ℕ) × (handled p o .answer ≡ answer.Refused why place)
 
 abbrev pub Answers : Call → Ends → Type 0
 Answers (refused (write left out)) c = RefusesWrite (c .l) out

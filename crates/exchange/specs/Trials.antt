@@ -7,6 +7,7 @@ use mathlib.Core.List.{List, [], _∷_, _++_, map}
 use mathlib.Core.Option.{none}
 use lib.ListN.{length, drop, replicate, getD, set}
 use lib.ListN as list
+use Rattle.octets.specs.Words.{if_then_else_, _is_}
 use Rattle.octets.specs.Octets.{octets4}
 use Rattle.octets.specs.Texts.{text}
 use Rattle.tlv.specs.declared.Reading.{Reading}
@@ -73,10 +74,10 @@ applications = 0x08 ∷ 0x0a ∷ 0x00 ∷ 0x00 ∷ 0x80 ∷ 0x00 ∷ 0x89 ∷ 0x
 unfoldable pub frameOf : List ℕ → List ℕ
 frameOf subTlvs = layout.frameHead (length subTlvs) ++ subTlvs
 
--- ---- reading: a frame's refusal number, or what is asked of the message that it is
+-- ---- reading: a frame's refusal number and its place, or what is asked of the message that it is
 
 unfoldable pub messageIn : (handling.Message → List ℕ) → List ℕ → Reading → List ℕ
-messageIn ask o (read.Refused why) = refusalNumber why ∷ []
+messageIn ask o (read.Refused why place) = refusalNumber why ∷ place ∷ []
 messageIn ask o (read.Accepted c) = ask (handling.message o c)
 
 unfoldable pub reads : (handling.Message → List ℕ) → List ℕ → List ℕ
@@ -168,8 +169,9 @@ started w x controlMax flowMax mask = after blank (at 1 (creation w x controlMax
 unfoldable pub w2Recorder : Recorder
 w2Recorder = started on on 0 0 8
 
+-- 0 and the values, or a refusal's number and its place
 unfoldable pub spoken : Reply → List ℕ
-spoken r = r .number ∷ r .values
+spoken r = r .number ∷ (if r .number is 0 then [] else r .place ∷ []) ++ r .values
 
 -- the answer in document 01's numbers, after some calls
 unfoldable pub answers : Recorder → List Call → Call → List ℕ

@@ -77,7 +77,7 @@ handled-stands p o k h = by (running p) (p .several) (readFrame o) refl
         → Standing ((if not a then refused NotRunning p else if b then refused SeveralNeighbours p else given o x p) .port)
     by false b x r = h
     by true true x r = h
-    by true false (Refused why) r = h
+    by true false (Refused why place) r = h
     by true false (Accepted c) r =
         running-stands (completed p (steps1to4 o c p)) (completed-sound p (steps1to4 o c p) (steps-sound o c p k (h .sound)))
         (completed-runs p (steps1to4 o c p) ∙ steps-run p o c ∙ r)

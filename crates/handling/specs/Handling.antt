@@ -21,7 +21,7 @@ use Rattle.port.specs.declared.Event.{Event}
 use Rattle.port.specs.declared.Raised.{Raised}
 use Rattle.port.specs.declared.Raised.the-variants as raised
 use Rattle.port.specs.Parts.{featureOf, withControl, withFeatures, running}
-use Rattle.port.specs.PortEvents.{refused, event, completed}
+use Rattle.port.specs.PortEvents.{refusedAt, refused, event, completed}
 
 -- What a frame with one readable control has: its versions, its numbers, and the three features.
 pub record Message : Type 0 where
@@ -83,8 +83,9 @@ frameEvent before after = event (markNotice before after) before after
 unfoldable pub accepted : List ℕ → Contents → Port → Event
 accepted o c p = frameEvent p (completed p (steps1to4 o c p))
 
+-- 02, E2: "Everything above the reader passes it on", the place beside the number
 unfoldable pub given : List ℕ → Reading → Port → Event
-given o (Refused why) p = refused why p
+given o (Refused why place) p = refusedAt why place p
 given o (Accepted c) p = accepted o c p
 
 -- "1: the port isn't running: a frame, ..", "2: a frame while several neighbours are flagged", then 3 to 8

@@ -43,7 +43,7 @@ use Rattle.notices.specs.declared.Kind.the-variants.{DuplicateControl}
 use Rattle.port.specs.Parts.{featureOf, three, withControl, withFeatures, some, running}
 use Rattle.port.specs.Writing.{controlValue, asks}
 use Rattle.port.specs.EventLaws.{counted, sent-counted}
-use Rattle.port.specs.PortEvents.{unsynced, completed, becomes, raises, refused}
+use Rattle.port.specs.PortEvents.{unsynced, completed, becomes, raises, refusedAt, refused}
 use Rattle.port.specs.WritingLaws.{asks-parts}
 use Rattle.handling.specs.Handling.{Message, hasOf, message, seenTwice, twice, met, numbered, exchanged, once, steps1to4, markNotice, frameEvent, accepted, given, handled}
 
@@ -51,8 +51,8 @@ use Rattle.handling.specs.Handling.{Message, hasOf, message, seenTwice, 
 
 unfoldable pub admitted : Port → List ℕ → Reading
 admitted p o =
-    if not (running p) then Refused NotRunning
-    else if p .several then Refused SeveralNeighbours
+    if not (running p) then Refused NotRunning 0
+    else if p .several then Refused SeveralNeighbours 0
     else readFrame o
 
 -- a frame that is taken lies inside the octets, and the port runs
@@ -61,7 +61,7 @@ pub record Admits (p : Port) (o : List ℕ) (r : Reading) : Type 0 where
   pub inside : (c : Contents) → r ≡ Accepted c → Inside o c
   pub runs : (c : Contents) → r ≡ Accepted c → running p ≡ true
 
-refused-admits : {p : Port} {o : List ℕ} {why : Refusal} → Refused why ≡ admitted p o → Admits p o (Refused why)
+refused-admits : {p : Port} {o : List ℕ} {why : Refusal} {i : ℕ} → Refused why i ≡ admitted p o → Admits p o (Refused why i)
 refused-admits e =
     record {
       answers = e;
@@ -70,12 +70,12 @@ refused-admits e =
     }
 
 module _ (p : Port) (o : List ℕ) {b : Bool} (e : b ≡ running p) where
-  pub admit-stopped : not b ≡ true → Admits p o (Refused NotRunning)
+  pub admit-stopped : not b ≡ true → Admits p o (Refused NotRunning 0)
   unfolding admitted
   admit-stopped t = refused-admits (rw (← e, t) refl)
 
   module _ (t : not b ≡ false) where
-    pub admit-several : p .several ≡ true → Admits p o (Refused SeveralNeighbours)
+    pub admit-several : p .several ≡ true → Admits p o (Refused SeveralNeighbours 0)
     unfolding admitted
     admit-several u = refused-admits (rw (← e, t, u) refl)
 
@@ -88,7 +88,7 @@ unfolding handled given admitted
 handled-admitted p o = by (running p) (p .several)
   where
     by : (a b : Bool) → (if not a then refused NotRunning p else if b then refused SeveralNeighbours p else given o (readFrame o) p)
-        ≡ given o (if not a then Refused NotRunning else if b then Refused SeveralNeighbours else readFrame o) p
+        ≡ given o (if not a then Refused NotRunning 0 else if b then Refused SeveralNeighbours 0 else readFrame o) p
     by false b = refl
     by true true = refl
     by true false = refl
@@ -314,7 +314,7 @@ module _ (p : Port) (o : List ℕ) {r : Reading} (er : Admits p o r) where
   admitted-event : handled p o ≡ given o r p
   admitted-event = handled-admitted p o ∙ ap (λ (r : Reading). given o r p) (sym (er .answers))
 
-  pub handle-refused : {why : Refusal} {e : Event} → r ≡ Refused why → e ≡ refused why p → e ≡ handled p o
+  pub handle-refused : {why : Refusal} {place : ℕ} {e : Event} → r ≡ Refused why place → e ≡ refusedAt why place p → e ≡ handled p o
   unfolding given
   handle-refused e ee = rw (admitted-event, e) ee
 

@@ -44,10 +44,10 @@ fn admit(p: Port, s: &[u8]) -> Reading
     ensures { λ r. ⌜ Admits p (now (s .entry)) r ⌝ }
 {
     if !port::writing::running(p) {
-        return Reading::Refused(Refusal::NotRunning);
+        return Reading::Refused(Refusal::NotRunning, 0);
     }
     if p.several {
-        return Reading::Refused(Refusal::SeveralNeighbours);
+        return Reading::Refused(Refusal::SeveralNeighbours, 0);
     }
     tlv::read(s)
 }
@@ -242,14 +242,14 @@ fn apply(p: Port, k: Change, s: &[u8], c: Contents) -> Port
     next
 }
 
-// Handles a frame that arrived (01, Handling a frame). A refused frame changes nothing.
+// Handles a frame that arrived (01, Handling a frame). A refused frame changes nothing; 3 to 8 come with the reader's place.
 pub fn handle(p: Port, s: &[u8]) -> Event
     ensures { λ r. ⌜ r ≡ handled p (now (s .entry)) ⌝ }
 {
     let read = admit(p, s);
     match read {
-        Reading::Refused(why) => {
-            return port::events::refuse(why, p);
+        Reading::Refused(why, place) => {
+            return port::events::refuse(why, place, p);
         }
         Reading::Accepted(contents) => {
             let change = decide(p, s, contents);

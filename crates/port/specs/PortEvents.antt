@@ -104,9 +104,13 @@ inOrder port n =
 
 -- ---- Events
 
--- "A refusal returns its number alone and changes nothing"
+-- "A refusal returns its number alone and changes nothing". 02, E2: "refusals 3 to 8 .. carry, beside the number, a place"; the place beside
+-- every other is 0.
+abbrev pub refusedAt : Refusal → ℕ → Port → Event
+refusedAt why place p = record { answer = Refused why place; port = p; notices = silent }
+
 abbrev pub refused : Refusal → Port → Event
-refused why p = record { answer = Refused why; port = p; notices = silent }
+refused why p = refusedAt why 0 p
 
 -- an event that changes nothing at all
 abbrev pub unchanged : Port → Event

@@ -3,7 +3,7 @@ use Prim.Native.Nat.{ℕ}
 use mathlib.Core.Bool.{Bool}
 use mathlib.Core.List.{List, [], _∷_}
 use Rattle.octets.specs.Words.{if_then_else_}
-use Rattle.tlv.specs.Refusals.{Reply, done, refusal}
+use Rattle.tlv.specs.Refusals.{Reply, done, refusal, refusalAt}
 use Rattle.notices.specs.Notices.{noticeNumber}
 use Rattle.port.specs.declared.Answer.{Answer}
 use Rattle.port.specs.declared.Answer.the-variants as answer
@@ -15,10 +15,10 @@ use Rattle.port.specs.declared.Raised.the-variants as raised
 abbrev pub bit : Bool → ℕ
 bit b = if b then 1 else 0
 
--- an event: whether it asks for a send, or its refusal
+-- an event: whether it asks for a send, or its refusal with its place
 abbrev pub eventReply : Answer → Reply
 eventReply (answer.Done wish) = done (bit wish ∷ [])
-eventReply (answer.Refused why) = refusal why
+eventReply (answer.Refused why place) = refusalAt why place
 
 -- a request to write: how many octets were written, or its refusal
 abbrev pub writtenReply : Written → Reply

@@ -7,7 +7,7 @@ ghost use Rattle.octets.specs.Words.{_is_};
 ghost use Rattle.port.specs.EventLaws.{counted};
 ghost use Rattle.port.specs.Replies.{raisedNumber};
 ghost use Rattle.port.specs.Settled.{settled};
-ghost use Rattle.port.specs.PortEvents.{unsynced, sent, freshControl, freshParts, freshPort, completed, noticed, becomes, raises, silent, refused, unchanged, flagNotice, restarts, flagSet, withFeature, withSetting, settingChanged, switchedOff, blankPort, started, event, flagged, peerGone, setTo, changedFeature, changedSetting, made, created};
+ghost use Rattle.port.specs.PortEvents.{unsynced, sent, freshControl, freshParts, freshPort, completed, noticed, becomes, raises, silent, refusedAt, unchanged, flagNotice, restarts, flagSet, withFeature, withSetting, settingChanged, switchedOff, blankPort, started, event, flagged, peerGone, setTo, changedFeature, changedSetting, made, created};
 use crate::Answer;
 use crate::Control;
 use crate::Event;
@@ -234,13 +234,13 @@ fn silent() -> Notices
     }
 }
 
-// A refusal changes nothing.
-pub fn refuse(why: Refusal, p: Port) -> Event
-    ensures { λ r. ⌜ r ≡ refused why p ⌝ }
+// A refusal changes nothing. Its place is 0, but for a frame that went wrong.
+pub fn refuse(why: Refusal, place: usize, p: Port) -> Event
+    ensures { λ r. ⌜ r ≡ refusedAt why place p ⌝ }
 {
     let none = silent();
     Event {
-        answer: Answer::Refused(why),
+        answer: Answer::Refused(why, place),
         port: p,
         notices: none,
     }
@@ -479,7 +479,7 @@ pub fn peer_gone(p: Port) -> Event
     ensures { λ r. ⌜ r ≡ peerGone p ⌝ }
 {
     if !crate::writing::running(p) {
-        return refuse(Refusal::NotRunning, p);
+        return refuse(Refusal::NotRunning, 0, p);
     }
     let c = p.control;
     let next = fresh(p);
@@ -503,7 +503,7 @@ fn change_feature(p: Port, f: Feature, w: Switches, o: &[u8]) -> Event
     ensures { λ r. ⌜ r ≡ changedFeature f w (now (o .entry)) p ⌝ }
 {
     if !parameters::valid_local(f, o) {
-        return refuse(Refusal::InvalidSetting, p);
+        return refuse(Refusal::InvalidSetting, 0, p);
     }
     set_to(p, f, feature::steps::setting_of(f, w, o))
 }
@@ -521,7 +521,7 @@ pub fn change_setting(p: Port, number: u8, w: Switches, o: &[u8]) -> Event
     if number == 4 {
         return change_feature(p, Feature::Applications, w, o);
     }
-    refuse(Refusal::UnknownFeature, p)
+    refuse(Refusal::UnknownFeature, 0, p)
 }
 
 // The port of three settings that are valid, in the place of another.
@@ -553,13 +553,13 @@ pub fn create(
     ensures { λ r. ⌜ r ≡ created v (three g w a) (three (now (gp .entry)) (now (wp .entry)) (now (ap .entry))) p ⌝ }
 {
     if !parameters::valid_local(Feature::Groups, gp) {
-        return refuse(Refusal::InvalidSetting, p);
+        return refuse(Refusal::InvalidSetting, 0, p);
     }
     if !parameters::valid_local(Feature::Flow, wp) {
-        return refuse(Refusal::InvalidSetting, p);
+        return refuse(Refusal::InvalidSetting, 0, p);
     }
     if !parameters::valid_local(Feature::Applications, ap) {
-        return refuse(Refusal::InvalidSetting, p);
+        return refuse(Refusal::InvalidSetting, 0, p);
     }
     let x = feature::steps::setting_of(Feature::Groups, g, gp);
     let y = feature::steps::setting_of(Feature::Flow, w, wp);

@@ -45,10 +45,11 @@ pub struct Versions {
     pub applications: u8,
 }
 
-// What an event gives: done, with the wish to send; or refused.
+// What an event gives: done, with the wish to send; or refused, with the place where a frame went wrong, and 0 beside every other
+// refusal (02, E2).
 pub enum Answer {
     Done(bool),
-    Refused(Refusal),
+    Refused(Refusal, usize),
 }
 
 // At most one notice of the port and one for each feature.

@@ -7,14 +7,14 @@ use Rattle.octets.specs.Words.{if_then_else_, _is_}
 use Rattle.tlv.specs.Refusals.{Reply}
 use Rattle.recorder.specs.declared.Recorder.{Recorder}
 use Rattle.recorder.specs.Calls.{Call, after, afterAll, replyOf, accepted}
-use Rattle.recorder.specs.Table.{firstOf}
+use Rattle.recorder.specs.Table.{firstOf, placeBeside}
 use Rattle.recorder.specs.Demand1.{valuesOf, reply, Demand1}
 use Rattle.recorder.proofs.Refusals.{answers}
 
 -- a call whose number is not 0 is refused by a row of the table
 refused-first : (r : Recorder) (x : Call) → (replyOf r x .number ≡ 0 → ⊥) → firstOf r x ≡ 0 → ⊥
 unfolding reply
-refused-first r x n e = n (ap (λ (a : Reply). a .number) (answers r x .answer) ∙ ap (λ k. reply k (valuesOf r x) .number) e)
+refused-first r x n e = n (ap (λ (a : Reply). a .number) (answers r x .answer) ∙ ap (λ k. reply k (placeBeside k (x .operation)) (valuesOf r x) .number) e)
 
 pub refused-leaves : (r : Recorder) (x : Call) → (replyOf r x .number is 0) ≡ false → after r x ≡ r
 refused-leaves r x e = answers r x .unchanged (refused-first r x (eqb-false (replyOf r x .number) 0 e)) .0

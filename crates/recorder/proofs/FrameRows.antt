@@ -1,4 +1,4 @@
--- What reading a frame answers is what the rows 3 to 8 of the table say of its octets. Assumes nothing.
+-- What reading a frame answers is what the rows 3 to 8 of the table say of its octets, number and place. Assumes nothing.
 use Prim.Native.Nat.{ℕ, zero, suc, _+_, _-_, _<_, _≤_, min}
 use native.Mathlib.Omega.{arith}
 use native.Mathlib.Nat.{add-zero}
@@ -18,9 +18,11 @@ use Rattle.tlv.specs.declared.Contents.{Contents}
 use Rattle.tlv.specs.declared.Reading.{Reading}
 use Rattle.tlv.specs.declared.Reading.the-variants.{Refused, Accepted}
 use Rattle.tlv.specs.Refusals.{refusalNumber}
-use Rattle.tlv.specs.Layout.{Walked, fixedOctets, typeAt, lengthAt, counts, foundAgain, noted, noContents, onward, walkFrom, walked, valueOf, isDcbx, judgedControl, readFrame}
+use Rattle.tlv.specs.Layout.{Walked, fixedOctets, typeAt, lengthAt, counts, foundAgain, noted, noContents, onward, walkFrom, walked, valueOf, headOf, isDcbx, judgedControl, readFrame}
 use Rattle.tlv.specs.Laws.{head-end, head-past, head-whole, walked-inside}
-use Rattle.recorder.specs.Rows.{pastEnd, controlsIn, controls, theOne, notDcbx}
+use Rattle.recorder.specs.Calls.{frame}
+use Rattle.recorder.specs.Rows.{pastEnd, controlsIn, controls, overrunAt, controlAt, theOne, notDcbx}
+use Rattle.recorder.specs.Table.{placeBeside}
 
 -- ---- the walk over sub-TLVs
 
@@ -50,16 +52,19 @@ unfoldable lastOf : List ℕ → List (List ℕ) → List ℕ
 lastOf v [] = v
 lastOf v (u ∷ us) = lastOf u us
 
--- how a walk ends that found x of controls before and still finds those of the values vs
-record Ends (o : List ℕ) (x : Found) (w : Walked) (beyond : Bool) (vs : List (List ℕ)) : Type 0 where
+-- how a walk ends that found x of controls before and still finds those of the values vs, the first of them at place i
+record Ends (o : List ℕ) (x : Found) (w : Walked) (beyond : Bool) (over i : ℕ) (vs : List (List ℕ)) : Type 0 where
   past : w .past ≡ beyond
+  place : w .place ≡ over
   count : w .contents .control .count ≡ min 2 (x .count + length vs)
   value : valueOf o (w .contents .control) ≡ lastOf (valueOf o x) vs
+  none : length vs ≡ 0 → w .contents .control ≡ x
+  one : length vs ≡ 1 → headOf (w .contents .control) ≡ i
 
 module _ (o : List ℕ) where
-  ended : (c : Contents) (b : Bool) → c .control .count ≤ 2 → Ends o (c .control) (record { past = b; contents = c }) b []
+  ended : (i : ℕ) (c : Contents) (b : Bool) {j : ℕ} → c .control .count ≤ 2 → Ends o (c .control) (record { place = i; past = b; contents = c }) b i j []
   unfolding lastOf
-  ended c b h = record { past = refl; count = omega arith; value = refl }
+  ended i c b h = record { past = refl; place = refl; count = omega arith; value = refl; none = λ z. refl; one = λ z. absurd (omega arith) }
 
   small : (c : Contents) (type start n : ℕ) → c .control .count ≤ 2 → noted o c type start n .control .count ≤ 2
   unfolding foundAgain
@@ -69,25 +74,35 @@ module _ (o : List ℕ) where
       by true = omega arith
       by false = h
 
-  -- one sub-TLV more
-  more : (c : Contents) (type start n : ℕ) (w : Walked) (p : Bool) (vs : List (List ℕ)) (b : Bool) → (type is 1) ≡ b →
-      Ends o (noted o c type start n .control) w p vs → Ends o (c .control) w p (if b then take n (drop start o) ∷ vs else vs)
+  -- one sub-TLV more, whose head is at i
+  more : (c : Contents) (type i n : ℕ) (w : Walked) (p : Bool) (over j : ℕ) (vs : List (List ℕ)) (b : Bool) → (type is 1) ≡ b →
+      Ends o (noted o c type (i + 2) n .control) w p over j vs →
+      Ends o (c .control) w p over (if b then i else j) (if b then take n (drop (i + 2) o) ∷ vs else vs)
   unfolding lastOf foundAgain
-  more c type start n w p vs true e r =
-      let k : noted o c type start n .control ≡ foundAgain (c .control) start n = control-noted o c type start n ∙ rw e refl in
+  more c type i n w p over j vs true e r =
+      let k : noted o c type (i + 2) n .control ≡ foundAgain (c .control) (i + 2) n = control-noted o c type (i + 2) n ∙ rw e refl in
       let q = rw k at r in
-      record { past = q .past; count = q .count ∙ omega arith; value = q .value }
-  more c type start n w p vs false e r =
-      let k : noted o c type start n .control ≡ c .control = control-noted o c type start n ∙ rw e refl in
+      record {
+        past = q .past;
+        place = q .place;
+        count = q .count ∙ omega arith;
+        value = q .value;
+        none = λ z. absurd (omega arith);
+        one = λ z. ap (λ (x : Found). headOf x) (q .none (omega arith)) ∙ omega arith;
+      }
+  more c type i n w p over j vs false e r =
+      let k : noted o c type (i + 2) n .control ≡ c .control = control-noted o c type (i + 2) n ∙ rw e refl in
       rw k at r
 
-  walk-ends : (k i : ℕ) (c : Contents) → c .control .count ≤ 2 → Ends o (c .control) (walkFrom k o i c) (pastEnd k (drop i o)) (controlsIn k (drop i o))
-  unfolding walkFrom onward pastEnd controlsIn
-  walk-ends zero i c h = ended c false h
+  abbrev EndsFrom : ℕ → ℕ → Contents → Type 0
+  EndsFrom k i c = Ends o (c .control) (walkFrom k o i c) (pastEnd k (drop i o)) (overrunAt k i (drop i o)) (controlAt k i (drop i o)) (controlsIn k (drop i o))
+
+  walk-ends : (k i : ℕ) (c : Contents) → c .control .count ≤ 2 → EndsFrom k i c
+  unfolding walkFrom onward pastEnd overrunAt controlAt controlsIn
+  walk-ends zero i c h = ended i c false h
   walk-ends (suc k) i c h = here (λ j d g. walk-ends k j d g)
     where
-      here : ((j : ℕ) (d : Contents) → d .control .count ≤ 2 → Ends o (d .control) (walkFrom k o j d) (pastEnd k (drop j o)) (controlsIn k (drop j o))) →
-          Ends o (c .control) (walkFrom (suc k) o i c) (pastEnd (suc k) (drop i o)) (controlsIn (suc k) (drop i o))
+      here : ((j : ℕ) (d : Contents) → d .control .count ≤ 2 → EndsFrom k j d) → EndsFrom (suc k) i c
       here later =
           let l : length (drop i o) ≡ length o - i = length-drop i o in
           let a : at (drop i o) 0 ≡ at o i = getD-drop i o 0 0 ∙ ap (λ (j : ℕ). at o j) (add-zero i) in
@@ -103,12 +118,12 @@ module _ (o : List ℕ) where
                   let v : take (lengthAt o i) (drop 2 (drop i o)) ≡ take (lengthAt o i) (drop (i + 2) o) = ap (take (lengthAt o i)) (drop-drop 2 i o) in
                   let r = later (i + 2 + lengthAt o i) (noted o c (typeAt o i) (i + 2) (lengthAt o i)) (small c (typeAt o i) (i + 2) (lengthAt o i) h) in
                   simp (ne-eqb (length (drop i o)) 0 (omega arith), a, b, sym (head-whole o i refl u), le-ltb (length (drop i o)) 2 (omega arith), le-ltb (length (drop i o)) (2 + lengthAt o i) (omega arith), z, v)
-                  (more c (typeAt o i) (i + 2) (lengthAt o i) _ _ _ _ refl r)
+                  (more c (typeAt o i) i (lengthAt o i) _ _ _ _ _ _ refl r)
               | no u ↦
                   simp (ne-eqb (length (drop i o)) 0 (omega arith), a, b, sym (head-past o i t (omega arith)), lt-ltb (length (drop i o)) (2 + lengthAt o i) (omega arith), or-true)
-                  (ended c true h)
+                  (ended i c true h)
             ]
-            | no t ↦ simp (sym (head-end o i (omega arith)), eq-eqb (length (drop i o)) 0 (omega arith)) (ended c false h)
+            | no t ↦ simp (sym (head-end o i (omega arith)), eq-eqb (length (drop i o)) 0 (omega arith)) (ended i c false h)
           ]
 
 -- ---- row by row
@@ -145,29 +160,41 @@ unfolding walked
 row5 o = walk-ends o (length o) 6 noContents (omega arith) .past
 
 abbrev pub readNumber : Reading → ℕ
-readNumber (Refused why) = refusalNumber why
+readNumber (Refused why place) = refusalNumber why
 readNumber (Accepted c) = 0
+
+abbrev pub readPlace : Reading → ℕ
+readPlace (Refused why place) = place
+readPlace (Accepted c) = 0
+
+-- a number of the table, and the place beside it
+pub record Reads (o : List ℕ) (x : Reading) (n : ℕ) : Type 0 where
+  pub number : readNumber x ≡ n
+  pub place : readPlace x ≡ placeBeside n (frame o)
 
 -- rows 6 to 8 of the controls that a walk found
 module _ (o : List ℕ) (c : Contents) (inside : c .control .start + c .control .length ≤ length o) where
   rows6to8 : (vs : List (List ℕ)) → c .control .count ≡ min 2 (length vs) → valueOf o (c .control) ≡ lastOf [] vs →
-      readNumber (judgedControl o c)
-      ≡ (if length vs is 0 then 6 else if theOne vs (λ v. not (length v is 10)) then 7 else if theOne vs (λ v. at v 1 below at v 0) then 8 else 0)
-  unfolding judgedControl theOne lastOf refusalNumber
-  rows6to8 [] n e = simp (eq-eqb (c .control .count) 0 n)
-  rows6to8 (v ∷ []) n e =
+      (length vs ≡ 1 → headOf (c .control) ≡ controlAt (length o) 6 (drop 6 o)) →
+      Reads o (judgedControl o c)
+      (if length vs is 0 then 6 else if theOne vs (λ v. not (length v is 10)) then 7 else if theOne vs (λ v. at v 1 below at v 0) then 8 else 0)
+  unfolding judgedControl theOne lastOf refusalNumber placeBeside
+  rows6to8 [] n e p = simp (eq-eqb (c .control .count) 0 n) (record { number = refl; place = refl })
+  rows6to8 (v ∷ []) n e p =
       let l : length v ≡ c .control .length = omega (arith, ap length e, length-take (c .control .length) (drop (c .control .start) o), length-drop (c .control .start) o) in
       simp (ne-eqb (c .control .count) 0 (omega arith), le-ltb 1 (c .control .count) (omega arith), ← l) (by (length v is 10) refl)
     where
-      above : (b : Bool) → readNumber (if b then Refused ControlVersion else Accepted c) ≡ (if b then 8 else 0)
-      above true = refl
-      above false = refl
+      above : (b : Bool) → Reads o (if b then Refused ControlVersion (headOf (c .control)) else Accepted c) (if b then 8 else 0)
+      above true = record { number = refl; place = p refl }
+      above false = record { number = refl; place = refl }
 
       by : (b : Bool) → (length v is 10) ≡ b →
-          readNumber
-          (if not b then Refused ControlLength else if at o (c .control .start + 1) below at o (c .control .start) then Refused ControlVersion else Accepted c)
-          ≡ (if not b then 7 else if at v 1 below at v 0 then 8 else 0)
-      by false k = refl
+          Reads o
+          (if not b then Refused ControlLength (headOf (c .control))
+          else if at o (c .control .start + 1) below at o (c .control .start) then Refused ControlVersion (headOf (c .control))
+          else Accepted c)
+          (if not b then 7 else if at v 1 below at v 0 then 8 else 0)
+      by false k = record { number = refl; place = p refl }
       by true k =
           let l : length v ≡ 10 = eqb-true (length v) 10 k in
           let m : 1 < c .control .length = omega (arith, ap length e, length-take (c .control .length) (drop (c .control .start) o)) in
@@ -177,8 +204,9 @@ module _ (o : List ℕ) (c : Contents) (inside : c .control .start + c .control 
           ap (λ (v : List ℕ). at v 0) (sym e) ∙ getD-take (c .control .length) (drop (c .control .start) o) 0 0 (omega arith) ∙ getD-drop (c .control .start) o 0 0
           ∙ ap (λ (i : ℕ). at o i) (add-zero (c .control .start)) in
           rw (max, oper) (above (at o (c .control .start + 1) below at o (c .control .start)))
-  rows6to8 (v ∷ u ∷ vs) n e =
+  rows6to8 (v ∷ u ∷ vs) n e p =
       simp (ne-eqb (c .control .count) 0 (omega arith), lt-ltb 1 (c .control .count) (omega arith), ne-eqb (length (v ∷ u ∷ vs)) 0 (omega arith))
+      (record { number = refl; place = refl })
 
 -- ---- the rows together
 
@@ -191,37 +219,40 @@ module _ (o : List ℕ) where
       else if theOne (controls o) (λ v. at v 1 below at v 0) then 8
       else 0
 
+  found : EndsFrom o (length o) 6 noContents
+  found = walk-ends o (length o) 6 noContents (omega arith)
+
   -- over the tests of 5, of 4 and of 3
-  by-past : (b : Bool) → readNumber (if b then Refused PastEnd else judgedControl o (walked o .contents)) ≡ (if b then 5 else ofControls)
-  unfolding walked refusalNumber
-  by-past true = refl
+  by-past : (b : Bool) → Reads o (if b then Refused PastEnd (walked o .place) else judgedControl o (walked o .contents)) (if b then 5 else ofControls)
+  unfolding walked refusalNumber placeBeside
+  by-past true = record { number = refl; place = found .place }
   by-past false =
-      let found : Ends o (noContents .control) (walked o) (pastEnd (length o) (drop 6 o)) (controls o) = walk-ends o (length o) 6 noContents (omega arith) in
-      rows6to8 o (walked o .contents) (walked-inside o .control) (controls o) (omega (arith, found .count)) (found .value)
+      rows6to8 o (walked o .contents) (walked-inside o .control) (controls o) (omega (arith, found .count)) (found .value) (found .one)
 
   by-length : (b : Bool) →
-      readNumber (if not b then Refused WrongLength else if walked o .past then Refused PastEnd else judgedControl o (walked o .contents))
-      ≡ (if not b then 4 else if walked o .past then 5 else ofControls)
-  unfolding refusalNumber
-  by-length false = refl
+      Reads o
+      (if not b then Refused WrongLength 0 else if walked o .past then Refused PastEnd (walked o .place) else judgedControl o (walked o .contents))
+      (if not b then 4 else if walked o .past then 5 else ofControls)
+  unfolding refusalNumber placeBeside
+  by-length false = record { number = refl; place = refl }
   by-length true = by-past (walked o .past)
 
   by-dcbx : (b : Bool) → isDcbx o ≡ b →
-      readNumber
-      (if not b then Refused NotDcbx
-      else if not (lengthAt o 0 + 2 is length o) then Refused WrongLength
-      else if walked o .past then Refused PastEnd
+      Reads o
+      (if not b then Refused NotDcbx 0
+      else if not (lengthAt o 0 + 2 is length o) then Refused WrongLength 0
+      else if walked o .past then Refused PastEnd (walked o .place)
       else judgedControl o (walked o .contents))
-      ≡ (if not b then 3 else if not (lengthAt o 0 is length (drop 2 o)) then 4 else if walked o .past then 5 else ofControls)
-  unfolding refusalNumber isDcbx
-  by-dcbx false e = refl
+      (if not b then 3 else if not (lengthAt o 0 is length (drop 2 o)) then 4 else if walked o .past then 5 else ofControls)
+  unfolding refusalNumber isDcbx placeBeside
+  by-dcbx false e = record { number = refl; place = refl }
   by-dcbx true e =
       let six : 6 ≤ length o =
       leb-true 6 (length o) (and-left (6 atmost length o) (typeAt o 0 is 127) (and-left (6 atmost length o && typeAt o 0 is 127) (same (take 4 (drop 2 o)) fixedOctets) e)) in
       rw (row4 o six) (by-length (lengthAt o 0 + 2 is length o))
 
   pub reading :
-      readNumber (readFrame o)
-      ≡ (if notDcbx o then 3 else if not (lengthAt o 0 is length (drop 2 o)) then 4 else if pastEnd (length o) (drop 6 o) then 5 else ofControls)
+      Reads o (readFrame o)
+      (if notDcbx o then 3 else if not (lengthAt o 0 is length (drop 2 o)) then 4 else if pastEnd (length o) (drop 6 o) then 5 else ofControls)
   unfolding readFrame
   reading = rw (row3 o, ← row5 o) (by-dcbx (isDcbx o) refl)

@@ -1,5 +1,5 @@
--- Demand 1: every call answers; it is refused exactly when the table says and with the number that the table's order gives; and a
--- refused call changes nothing.
+-- Demand 1: every call answers; it is refused exactly when the table says and with the number that the table's order gives, and its
+-- place; and a refused call changes nothing.
 use Prim.Native.Nat.{ℕ}
 use mathlib.Core.Path.{_≡_}
 use mathlib.Core.Bool.{not}
@@ -16,7 +16,7 @@ use Rattle.port.specs.Writing as writing
 use Rattle.recorder.specs.declared.Recorder.{Recorder}
 use Rattle.recorder.specs.Recorder.{portAt}
 use Rattle.recorder.specs.Calls.{Operation, create, frame, gone, flag, setting, write, take, Call, eventOf, raised, after, afterAll, lent, lentAfter, replyOf, accepted}
-use Rattle.recorder.specs.Table.{firstOf}
+use Rattle.recorder.specs.Table.{firstOf, placeBeside}
 
 -- ---- the values beside an answer that is no refusal
 
@@ -38,16 +38,16 @@ valuesAt r n take = noticeNumber (oldestOf n (r .log) .kind) ∷ oldestOf n (r .
 abbrev pub valuesOf : Recorder → Call → List ℕ
 valuesOf r x = valuesAt r (x .port) (x .operation)
 
--- a number of the table, alone; or 0 and the values
-unfoldable pub reply : ℕ → List ℕ → Reply
-reply n values = if n is 0 then done values else record { number = n; values = [] }
+-- a number of the table, and its place; or 0 and the values
+unfoldable pub reply : ℕ → ℕ → List ℕ → Reply
+reply n place values = if n is 0 then done values else record { number = n; place = place; values = [] }
 
 -- ---- the demand
 
 -- one call at a recorder: it answers by the table, with these values where it is not refused; "A refusal .. changes nothing": four
 -- ports, log, lent octets; and it raises nothing
 pub record Answers (r : Recorder) (x : Call) : Type 0 where
-  pub answer : replyOf r x ≡ reply (firstOf r x) (valuesOf r x)
+  pub answer : replyOf r x ≡ reply (firstOf r x) (placeBeside (firstOf r x) (x .operation)) (valuesOf r x)
   pub unchanged : (firstOf r x ≡ 0 → ⊥) → (after r x ≡ r) × (lentAfter r x ≡ lent x)
   pub quiet : (firstOf r x ≡ 0 → ⊥) → raised r x ≡ []
 

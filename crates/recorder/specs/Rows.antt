@@ -42,6 +42,16 @@ controlsIn (suc n) s =
 abbrev pub controls : List ℕ → List (List ℕ)
 controls o = controlsIn (length o) (drop 6 o)
 
+-- 02, E2: places, "counted from 0 at the TLV's first octet", of sub-TLVs that stand from place i on: the head of the first that runs past
+-- the end; and of the first control
+unfoldable pub overrunAt : ℕ → ℕ → List ℕ → ℕ
+overrunAt zero i s = i
+overrunAt (suc n) i s = if length s is 0 then i else if runsPast s then i else overrunAt n (i + 2 + lengthAt s 0) (behind s)
+
+unfoldable pub controlAt : ℕ → ℕ → List ℕ → ℕ
+controlAt zero i s = i
+controlAt (suc n) i s = if typeAt s 0 is 1 then i else controlAt n (i + 2 + lengthAt s 0) (behind s)
+
 -- a test of the control sub-TLV, where there is exactly one
 unfoldable pub theOne : List (List ℕ) → (List ℕ → Bool) → Bool
 theOne [] test = false
@@ -70,6 +80,16 @@ ofFrame (call.flag x on) test = false
 ofFrame (call.setting number w o) test = false
 ofFrame (call.write out) test = false
 ofFrame call.take test = false
+
+-- a place in a frame, and 0 of any other operation
+abbrev pub inFrame : Operation → (List ℕ → ℕ) → ℕ
+inFrame (call.create v w o) place = 0
+inFrame (call.frame o) place = place o
+inFrame call.gone place = 0
+inFrame (call.flag x on) place = 0
+inFrame (call.setting number w o) place = 0
+inFrame (call.write out) place = 0
+inFrame call.take place = 0
 
 abbrev pub ofSetting : Operation → (ℕ → List ℕ → Bool) → Bool
 ofSetting (call.create v w o) test = false

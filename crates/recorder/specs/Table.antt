@@ -15,7 +15,7 @@ use Rattle.port.specs.Writing.{frame}
 use Rattle.recorder.specs.declared.Recorder.{Recorder}
 use Rattle.recorder.specs.Recorder.{portAt}
 use Rattle.recorder.specs.Calls.{Operation, Call}
-use Rattle.recorder.specs.Rows.{wantsRunning, ofFrame, ofSetting, ofWrite, ofTaking, notDcbx, pastEnd, controls, theOne, setsInvalid}
+use Rattle.recorder.specs.Rows.{overrunAt, controlAt, wantsRunning, ofFrame, inFrame, ofSetting, ofWrite, ofTaking, notDcbx, pastEnd, controls, theOne, setsInvalid}
 
 -- the row with number k applies to operation x at port n, which is p and holds so many notices
 unfoldable pub applies : ℕ → ℕ → Port → ℕ → Operation → Bool
@@ -62,3 +62,15 @@ firstAt r n x = firstIn order n (portAt r n) (countOf n (r .log)) x
 
 abbrev pub firstOf : Recorder → Call → ℕ
 firstOf r x = firstAt r (x .port) (x .operation)
+
+-- 02, E2: the place beside the number of the row that applies, "counted from 0 at the TLV's first octet"
+unfoldable pub placeBeside : ℕ → Operation → ℕ
+placeBeside k x =
+    -- "the head of the sub-TLV that runs over for 5"
+    if k is 5 then inFrame x (λ o. overrunAt (length o) 6 (drop 6 o))
+    -- "the end of the input for 6"
+    else if k is 6 then inFrame x (λ o. length o)
+    -- "the control's head for 7 and 8"
+    else if k is 7 || k is 8 then inFrame x (λ o. controlAt (length o) 6 (drop 6 o))
+    -- "0 for 3 and 4"; and beside a number that is no frame's inside there is none
+    else 0

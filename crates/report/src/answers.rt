@@ -47,6 +47,24 @@ pub fn refused(out: &mut [u8], at: usize, r: Refusal) -> usize {
     forms::put(out, at, b"refused #\n", &numbers)
 }
 
+// Whether a place stands beside a refusal's number: 3 to 8.
+fn has_place(number: u8) -> bool {
+    if number < 3 {
+        return false;
+    }
+    number < 9
+}
+
+// `refused N at P` where a frame went wrong, and otherwise `refused N`
+pub fn refused_at(out: &mut [u8], at: usize, r: Refusal, place: usize) -> usize {
+    let number = tlv::refusal_number(r);
+    if !has_place(number) {
+        return refused(out, at, r);
+    }
+    let numbers = [number as u64, place as u64];
+    forms::put(out, at, b"refused # at #\n", &numbers)
+}
+
 // `done`, or `done send`
 pub fn done(out: &mut [u8], at: usize, send: bool) -> usize {
     if send {

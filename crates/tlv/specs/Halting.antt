@@ -55,19 +55,23 @@ stepped o w (SubTlv type start n) =
 unfoldable pub passed : Walk → List ℕ → Step
 passed w o = stepped o w (headAt o 0)
 
--- 6 to 8 by what was kept
-unfoldable pub judged : Contents → Control → Reading
-judged c k = judgedBy c (k .oper) (k .max)
+-- 6 to 8 by what was kept, and where the whole ends
+unfoldable pub judged : ℕ → Contents → Control → Reading
+judged end c k = judgedBy end c (k .oper) (k .max)
 
--- all passed: 5, or 6 to 8. Each sub-TLV takes two octets or more, so the length is steps enough.
-unfoldable pub finishing : Walk → Step → (Walk → Reading) → Reading
-finishing w step.End next = judged (w .contents) (w .control)
-finishing w step.Past next = Refused PastEnd
-finishing w (step.Halted v) next = next v
+-- the end of the whole, where o are the octets from a walk's place on
+abbrev pub endOf : Walk → List ℕ → ℕ
+endOf w o = w .at + length o
+
+-- all passed: 5, at the walk's place, or 6 to 8. Each sub-TLV takes two octets or more, so the length is steps enough.
+unfoldable pub finishing : Walk → List ℕ → Step → (Walk → Reading) → Reading
+finishing w o step.End next = judged (endOf w o) (w .contents) (w .control)
+finishing w o step.Past next = Refused PastEnd (w .at)
+finishing w o (step.Halted v) next = next v
 
 unfoldable pub finishIn : ℕ → Walk → List ℕ → Reading
-finishIn zero w o = judged (w .contents) (w .control)
-finishIn (suc k) w o = finishing w (passed w o) (λ v. finishIn k v (drop (v .at - w .at) o))
+finishIn zero w o = judged (endOf w o) (w .contents) (w .control)
+finishIn (suc k) w o = finishing w o (passed w o) (λ v. finishIn k v (drop (v .at - w .at) o))
 
 unfoldable pub finished : Walk → List ℕ → Reading
 finished w o = finishIn (length o) w o
@@ -91,6 +95,6 @@ pub record Resumes (o : List ℕ) : Type 0 where
   pub control : (w : Walk) → Halts o w → w .control ≡ controlIn (valueOf o (w .contents .control))
   pub same : (w : Walk) → Halts o w
       → readFrame o
-      ≡ (if not (isDcbx o) then Refused NotDcbx
-      else if not (lengthAt o 0 + 2 is length o) then Refused WrongLength
+      ≡ (if not (isDcbx o) then Refused NotDcbx 0
+      else if not (lengthAt o 0 + 2 is length o) then Refused WrongLength 0
       else finished w (drop (w .at) o))

@@ -20,7 +20,7 @@ use Rattle.tlv.specs.declared.Walk.{Walk}
 use Rattle.tlv.specs.declared.Step.the-variants as step
 use Rattle.tlv.specs.declared.Reading.{Reading}
 use Rattle.tlv.specs.declared.Reading.the-variants.{Refused, Accepted}
-use Rattle.tlv.specs.Layout.{typeAt, lengthAt, headAt, counts, foundAgain}
+use Rattle.tlv.specs.Layout.{typeAt, lengthAt, headAt, counts, foundAgain, headOf}
 use Rattle.tlv.specs.Halting.{notedAt, noControl, controlIn, keptBehind, stepped, passed, judged, finishing, finishIn, finished}
 use Rattle.tlv.specs.Laws.{head-end, head-past, head-whole, end-is-not-past, at-end, at-past, Within, head-within, choice}
 
@@ -109,27 +109,28 @@ module _ (w : Walk) (o : List ℕ) {d : Head} where
 
 -- ---- the judge
 
-module _ (c : Contents) (k : Control) where
-  pub no-control : c .control .count ≡ 0 → Refused NoControl ≡ judged c k
+module _ (end : ℕ) (c : Contents) (k : Control) where
+  pub no-control : c .control .count ≡ 0 → Refused NoControl end ≡ judged end c k
   unfolding judged
   no-control h = simp (eq-eqb (c .control .count) 0 h)
 
-  pub several-controls : 1 < c .control .count → Accepted c ≡ judged c k
+  pub several-controls : 1 < c .control .count → Accepted c ≡ judged end c k
   unfolding judged
   several-controls h = simp (ne-eqb (c .control .count) 0 (omega arith), lt-ltb 1 (c .control .count) h)
 
-  pub control-length : (c .control .count ≡ 0 → ⊥) → c .control .count ≤ 1 → (c .control .length ≡ 10 → ⊥) → Refused ControlLength ≡ judged c k
+  pub control-length : {i : ℕ} → i ≡ headOf (c .control) → (c .control .count ≡ 0 → ⊥) → c .control .count ≤ 1 → (c .control .length ≡ 10 → ⊥)
+      → Refused ControlLength i ≡ judged end c k
   unfolding judged
-  control-length n h l = simp (ne-eqb (c .control .count) 0 n, le-ltb 1 (c .control .count) h, ne-eqb (c .control .length) 10 l)
+  control-length e n h l = simp (e, ne-eqb (c .control .count) 0 n, le-ltb 1 (c .control .count) h, ne-eqb (c .control .length) 10 l)
 
-  pub control-version : (c .control .count ≡ 0 → ⊥) → c .control .count ≤ 1 → c .control .length ≡ 10
-      → k .max < k .oper → Refused ControlVersion ≡ judged c k
+  pub control-version : {i : ℕ} → i ≡ headOf (c .control) → (c .control .count ≡ 0 → ⊥) → c .control .count ≤ 1 → c .control .length ≡ 10
+      → k .max < k .oper → Refused ControlVersion i ≡ judged end c k
   unfolding judged
-  control-version n h l v =
-      simp (ne-eqb (c .control .count) 0 n, le-ltb 1 (c .control .count) h, eq-eqb (c .control .length) 10 l, lt-ltb (k .max) (k .oper) v)
+  control-version e n h l v =
+      simp (e, ne-eqb (c .control .count) 0 n, le-ltb 1 (c .control .count) h, eq-eqb (c .control .length) 10 l, lt-ltb (k .max) (k .oper) v)
 
   pub one-control : (c .control .count ≡ 0 → ⊥) → c .control .count ≤ 1 → c .control .length ≡ 10
-      → k .oper ≤ k .max → Accepted c ≡ judged c k
+      → k .oper ≤ k .max → Accepted c ≡ judged end c k
   unfolding judged
   one-control n h l v =
       simp (ne-eqb (c .control .count) 0 n, le-ltb 1 (c .control .count) h, eq-eqb (c .control .length) 10 l, le-ltb (k .max) (k .oper) v)
@@ -192,11 +193,12 @@ module _ (base : ℕ) (o : List ℕ) (i : ℕ) (w : Walk) (p : w .at ≡ base + 
 -- the one control at the end is read where it came in them, `count` being how many had come before
 unfoldable pub judgedEnd : ℕ → List ℕ → ℕ → Control → Contents → Reading
 judgedEnd base o count k c =
-    if c .control .count is 1 && count is 0 then judged c (controlIn (take (c .control .length) (drop (c .control .start - base) o)))
-    else judged c k
+    if c .control .count is 1 && count is 0 then judged (base + length o) c (controlIn (take (c .control .length) (drop (c .control .start - base) o)))
+    else judged (base + length o) c k
 
--- and that it came in them
+-- and that it came in them, and the whole has a length
 pub record Came (base : ℕ) (o : List ℕ) (count : ℕ) (c : Contents) : Type 0 where
+  pub fits : base + length o < 2 ^ 64
   pub place : c .control .count ≡ 1 → count ≡ 0 → base ≤ c .control .start
   pub inside : c .control .count ≡ 1 → count ≡ 0 → c .control .start - base + c .control .length ≤ length o
 
@@ -211,15 +213,15 @@ module _ {base : ℕ} {o : List ℕ} {count : ℕ} {c : Contents} where
   came-fits g e f h = omega (arith, g .inside e f)
 
 module _ (base : ℕ) (o : List ℕ) (count : ℕ) (k : Control) (c : Contents) {r : Reading} where
-  pub end-other : r ≡ judged c k → (c .control .count ≡ 1 → ⊥) → r ≡ judgedEnd base o count k c
+  pub end-other : r ≡ judged (base + length o) c k → (c .control .count ≡ 1 → ⊥) → r ≡ judgedEnd base o count k c
   unfolding judgedEnd
   end-other j e = simp (j, ne-eqb (c .control .count) 1 e)
 
-  pub end-kept : r ≡ judged c k → c .control .count ≡ 1 → (count ≡ 0 → ⊥) → r ≡ judgedEnd base o count k c
+  pub end-kept : r ≡ judged (base + length o) c k → c .control .count ≡ 1 → (count ≡ 0 → ⊥) → r ≡ judgedEnd base o count k c
   unfolding judgedEnd
   end-kept j e f = simp (j, eq-eqb (c .control .count) 1 e, ne-eqb count 0 f)
 
-  pub end-came : {l : Control} → r ≡ judged c l
+  pub end-came : {l : Control} → r ≡ judged (base + length o) c l
       → l ≡ controlIn (take (c .control .start - base + c .control .length - (c .control .start - base)) (drop (c .control .start - base) o))
       → c .control .count ≡ 1 → count ≡ 0 → r ≡ judgedEnd base o count k c
   unfolding judgedEnd
@@ -232,12 +234,12 @@ pub record Late (base : ℕ) (o : List ℕ) (w : Walk) (c : Contents) (k : Contr
   pub came : Came base o (w .contents .control .count) c
   pub since : w .contents .control .count ≡ 0 → c .control .count ≡ 1 → k ≡ controlIn (take (c .control .length) (drop (c .control .start - base) o))
 
-late-start : (base : ℕ) (o : List ℕ) (w : Walk) → Late base o w (w .contents) (w .control)
-late-start base o w =
+late-start : (base : ℕ) (o : List ℕ) (w : Walk) → base + length o < 2 ^ 64 → Late base o w (w .contents) (w .control)
+late-start base o w h =
     record {
       stays = λ n z. n z;
       before = λ n e. refl;
-      came = record { place = λ e z. absurd (omega arith); inside = λ e z. absurd (omega arith) };
+      came = record { fits = h; place = λ e z. absurd (omega arith); inside = λ e z. absurd (omega arith) };
       since = λ z e. absurd (omega arith);
     }
 
@@ -260,43 +262,48 @@ late-on {base} {o} {w} {c} {k} type start n h g = here (type is 1) (not (counts 
         record {
           stays = λ m z. absurd (omega arith);
           before = λ m e. absurd (g .stays m (omega arith));
-          came = record { place = λ e z. omega arith; inside = λ e z. omega arith };
+          came = record { fits = g .came .fits; place = λ e z. omega arith; inside = λ e z. omega arith };
           since = λ z e. rw p refl;
         }
     here false true groups flow applications = g
-    here false false true flow applications = record { stays = g .stays; before = g .before; came = record { place = g .came .place; inside = g .came .inside }; since = g .since }
-    here false false false true applications = record { stays = g .stays; before = g .before; came = record { place = g .came .place; inside = g .came .inside }; since = g .since }
-    here false false false false true = record { stays = g .stays; before = g .before; came = record { place = g .came .place; inside = g .came .inside }; since = g .since }
+    here false false true flow applications = record { stays = g .stays; before = g .before; came = record { fits = g .came .fits; place = g .came .place; inside = g .came .inside }; since = g .since }
+    here false false false true applications = record { stays = g .stays; before = g .before; came = record { fits = g .came .fits; place = g .came .place; inside = g .came .inside }; since = g .since }
+    here false false false false true = record { stays = g .stays; before = g .before; came = record { fits = g .came .fits; place = g .came .place; inside = g .came .inside }; since = g .since }
     here false false false false false = g
 
-judged-any : (c : Contents) (k l : Control) → (c .control .count ≡ 1 → ⊥) → judged c k ≡ judged c l
+judged-any : (end : ℕ) (c : Contents) (k l : Control) → (c .control .count ≡ 1 → ⊥) → judged end c k ≡ judged end c l
 unfolding judged
-judged-any c k l e = here (c .control .count is 0) refl
+judged-any end c k l e = here (c .control .count is 0) refl
   where
     here : (b : Bool) → (c .control .count is 0) ≡ b
-        → (if b then Refused NoControl else if 1 below c .control .count then Accepted c else if not (c .control .length is 10) then Refused ControlLength
-        else if k .max below k .oper then Refused ControlVersion else Accepted c)
-        ≡ (if b then Refused NoControl else if 1 below c .control .count then Accepted c else if not (c .control .length is 10) then Refused ControlLength
-        else if l .max below l .oper then Refused ControlVersion else Accepted c)
+        → (if b then Refused NoControl end else if 1 below c .control .count then Accepted c
+        else if not (c .control .length is 10) then Refused ControlLength (headOf (c .control))
+        else if k .max below k .oper then Refused ControlVersion (headOf (c .control)) else Accepted c)
+        ≡ (if b then Refused NoControl end else if 1 below c .control .count then Accepted c
+        else if not (c .control .length is 10) then Refused ControlLength (headOf (c .control))
+        else if l .max below l .oper then Refused ControlVersion (headOf (c .control)) else Accepted c)
     here true q = refl
     here false q = let z : c .control .count ≡ 0 → ⊥ = eqb-false (c .control .count) 0 q in simp (lt-ltb 1 (c .control .count) (omega arith))
 
 late-judged : {base : ℕ} {o : List ℕ} {w : Walk} {c : Contents} {k : Control} → Late base o w c k
-    → judgedEnd base o (w .contents .control .count) (w .control) c ≡ judged c k
+    → judgedEnd base o (w .contents .control .count) (w .control) c ≡ judged (base + length o) c k
 unfolding judgedEnd
 late-judged {base} {o} {w} {c} {k} g = here (c .control .count is 1) (w .contents .control .count is 0) refl refl
   where
     here : (a b : Bool) → (c .control .count is 1) ≡ a → (w .contents .control .count is 0) ≡ b
-        → (if a && b then judged c (controlIn (take (c .control .length) (drop (c .control .start - base) o))) else judged c (w .control)) ≡ judged c k
-    here true true p q = ap (judged c) (sym (g .since (eqb-true (w .contents .control .count) 0 q) (eqb-true (c .control .count) 1 p)))
-    here true false p q = ap (judged c) (sym (g .before (eqb-false (w .contents .control .count) 0 q) (eqb-true (c .control .count) 1 p)))
-    here false b p q = judged-any c (w .control) k (eqb-false (c .control .count) 1 p)
+        → (if a && b then judged (base + length o) c (controlIn (take (c .control .length) (drop (c .control .start - base) o)))
+        else judged (base + length o) c (w .control))
+        ≡ judged (base + length o) c k
+    here true true p q = ap (judged (base + length o) c) (sym (g .since (eqb-true (w .contents .control .count) 0 q) (eqb-true (c .control .count) 1 p)))
+    here true false p q = ap (judged (base + length o) c) (sym (g .before (eqb-false (w .contents .control .count) 0 q) (eqb-true (c .control .count) 1 p)))
+    here false b p q = judged-any (base + length o) c (w .control) k (eqb-false (c .control .count) 1 p)
 
 -- ---- all passed
 
 -- a walk at w may go over o, the octets from `base` of the whole on
 pub record Ahead (base : ℕ) (o : List ℕ) (w : Walk) : Type 0 where
   pub from : base ≤ w .at
+  pub within : w .at ≤ base + length o
   pub fits : base + length o < 2 ^ 64
 
 pub finish-here : (o : List ℕ) (w : Walk) {r : Reading} → r ≡ finished w (drop (w .at - w .at) o) → r ≡ finished w o
@@ -306,6 +313,7 @@ finish-here o w e = let z : w .at - w .at ≡ 0 = omega arith in e ∙ rw z refl
 pub record GoingOn (base : ℕ) (o : List ℕ) (w : Walk) (c : Contents) (i : ℕ) : Type 0 where
   pub steps : ℕ
   pub enough : length o ≤ i + steps
+  pub within : i ≤ length o
   pub kept : Control
   pub late : Late base o w c kept
   pub left : finishIn steps (record { at = base + i; contents = c; control = kept }) (drop i o) ≡ finished w (drop (w .at - base) o)
@@ -319,8 +327,9 @@ finish-start {base} {o} {w} a =
     record {
       steps = length (drop i o);
       enough = omega (arith, length-drop i o);
+      within = omega (arith, a .within);
       kept = w .control;
-      late = late-start base o w;
+      late = late-start base o w (a .fits);
       left = rw p refl;
       fits = a .fits;
     }
@@ -333,19 +342,22 @@ module _ {base : ℕ} {o : List ℕ} {w : Walk} {c : Contents} {i : ℕ} where
     pub finish-end : {r : Reading} → GoingOn base o w c i → d ≡ headAt o i → d ≡ End
         → r ≡ judgedEnd base o (w .contents .control .count) (w .control) c → r ≡ finished w (drop (w .at - base) o)
     unfolding finishIn finishing
-    finish-end {r} g e f j = j ∙ late-judged (g .late) ∙ here (g .steps) (g .left)
+    finish-end {r} g e f j = let z : base + length o ≡ base + i + length (drop i o) = omega (arith, length-drop i o, g .within) in j ∙ late-judged (g .late) ∙ rw z (here (g .steps) (g .left))
       where
         here : (m : ℕ) → finishIn m (record { at = base + i; contents = c; control = g .kept }) (drop i o) ≡ finished w (drop (w .at - base) o)
-            → judged c (g .kept) ≡ finished w (drop (w .at - base) o)
+            → judged (base + i + length (drop i o)) c (g .kept) ≡ finished w (drop (w .at - base) o)
         here zero l = l
         here (suc m) l = simp (passed-end base o i (record { at = base + i; contents = c; control = g .kept }) refl (sym e ∙ f)) at l
 
-    pub finish-past : GoingOn base o w c i → d ≡ headAt o i → d ≡ Past → Refused PastEnd ≡ finished w (drop (w .at - base) o)
+    pub finish-overrun : GoingOn base o w c i → d ≡ headAt o i → d ≡ Past → base + i < 2 ^ 64
+    finish-overrun g e f = let h = at-past o i (sym e ∙ f) in omega (arith, g .fits)
+
+    pub finish-past : GoingOn base o w c i → d ≡ headAt o i → d ≡ Past → Refused PastEnd (base + i) ≡ finished w (drop (w .at - base) o)
     unfolding finishIn finishing
     finish-past g e f = here (g .steps) (g .enough) (g .left)
       where
         here : (m : ℕ) → length o ≤ i + m → finishIn m (record { at = base + i; contents = c; control = g .kept }) (drop i o) ≡ finished w (drop (w .at - base) o)
-            → Refused PastEnd ≡ finished w (drop (w .at - base) o)
+            → Refused PastEnd (base + i) ≡ finished w (drop (w .at - base) o)
         here zero h l = absurd (end-is-not-past (head-end o i (omega arith) ∙ sym e ∙ f))
         here (suc m) h l = simp (passed-past base o i (record { at = base + i; contents = c; control = g .kept }) refl (sym e ∙ f)) at l
 
@@ -370,6 +382,7 @@ module _ {base : ℕ} {o : List ℕ} {w : Walk} {c : Contents} {i : ℕ} where
             record {
               steps = m;
               enough = omega (arith, y .place);
+              within = y .high;
               kept = keptBehind o (g .kept) type start n;
               late = late-on type start n (y .high) (g .late);
               left = simp (passed-whole base o i (record { at = base + i; contents = c; control = g .kept }) refl (sym x ∙ f), z) at l;

@@ -15,7 +15,7 @@ use Rattle.tlv.specs.declared.Found.{Found}
 use Rattle.tlv.specs.declared.Contents.{Contents}
 use Rattle.tlv.specs.declared.Reading.{Reading}
 use Rattle.tlv.specs.declared.Reading.the-variants.{Refused, Accepted}
-use Rattle.tlv.specs.Layout.{fixedOctets, typeAt, lengthAt, headAt, counts, foundAgain, noted, noContents, onward, walkFrom, walked, isDcbx, judgedControl}
+use Rattle.tlv.specs.Layout.{fixedOctets, typeAt, lengthAt, headAt, counts, foundAgain, noted, noContents, onward, walkFrom, walked, headOf, isDcbx, judgedControl}
 use Rattle.tlv.specs.Promises.{Inside, ReadPromise}
 
 -- ---- the head at a place
@@ -141,7 +141,7 @@ walkFrom-inside zero o i c h = h
 walkFrom-inside (suc k) o i c h = here (λ j d t. walkFrom-inside k o j d t) (headAt o i) refl
   where
     here : ((j : ℕ) (d : Contents) → Inside o d → Inside o (walkFrom k o j d .contents)) → (x : Head) → x ≡ headAt o i
-        → Inside o (onward o x c (λ j d. walkFrom k o j d) .contents)
+        → Inside o (onward o i x c (λ j d. walkFrom k o j d) .contents)
     here later End e = h
     here later Past e = h
     here later (SubTlv type start n) e =
@@ -168,16 +168,19 @@ module _ (o : List ℕ) where
   unfolding isDcbx
   dcbx-fixed e h t = simp (e, le-leb 6 (length o) h, eq-eqb (typeAt o 0) 127 t)
 
-  pub dcbx-long : {b : Bool} → b ≡ isDcbx o → not b ≡ false → 1 < length o
+  pub dcbx-six : {b : Bool} → b ≡ isDcbx o → not b ≡ false → 6 ≤ length o
   unfolding isDcbx
-  dcbx-long {b} e f = here (6 atmost length o) refl (e ∙ refl)
+  dcbx-six {b} e f = here (6 atmost length o) refl (e ∙ refl)
     where
-      here : (t : Bool) → (6 atmost length o) ≡ t → b ≡ (t && (typeAt o 0 is 127) && same (take 4 (drop 2 o)) fixedOctets) → 1 < length o
-      here true q r = let h : 6 ≤ length o = leb-true _ _ q in omega arith
+      here : (t : Bool) → (6 atmost length o) ≡ t → b ≡ (t && (typeAt o 0 is 127) && same (take 4 (drop 2 o)) fixedOctets) → 6 ≤ length o
+      here true q r = leb-true _ _ q
       here false q r = let z : _≡_ {A = ℕ} 0 1 = cc in absurd (omega arith)
 
+  pub dcbx-long : {b : Bool} → b ≡ isDcbx o → not b ≡ false → 1 < length o
+  dcbx-long e f = let h : 6 ≤ length o = dcbx-six e f in omega arith
+
   pub dcbx-some : {b : Bool} → b ≡ isDcbx o → not b ≡ false → 0 < length o
-  dcbx-some e f = let h : 1 < length o = dcbx-long e f in omega arith
+  dcbx-some e f = let h : 6 ≤ length o = dcbx-six e f in omega arith
 
 -- what is accepted is what was walked
 pub judged-accepts : (o : List ℕ) (c d : Contents) → judgedControl o c ≡ Accepted d → c ≡ d
@@ -186,8 +189,8 @@ judged-accepts o c d e =
     here (c .control .count is 0) (1 below c .control .count) (not (c .control .length is 10)) (at o (c .control .start + 1) below at o (c .control .start)) e
   where
     here : (none several short newer : Bool)
-        → (if none then Refused NoControl else if several then Accepted c else if short then Refused ControlLength
-        else if newer then Refused ControlVersion else Accepted c) ≡ Accepted d
+        → (if none then Refused NoControl (length o) else if several then Accepted c else if short then Refused ControlLength (headOf (c .control))
+        else if newer then Refused ControlVersion (headOf (c .control)) else Accepted c) ≡ Accepted d
         → c ≡ d
     here true several short newer r = cc
     here false true short newer r = cc

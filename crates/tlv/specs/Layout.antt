@@ -1,5 +1,5 @@
 -- 01, TLV layout: the DCBX TLV, the walk over its sub-TLVs, and refusals 3 to 8. Places count from 0 at the TLV's first octet.
-use Prim.Native.Nat.{ℕ, zero, suc, _+_, _*_, _/_, _%_, min}
+use Prim.Native.Nat.{ℕ, zero, suc, _+_, _-_, _*_, _/_, _%_, min}
 use mathlib.Core.Bool.{Bool, true, false, not, _&&_, _||_}
 use mathlib.Core.List.{List, [], _∷_, _++_}
 use lib.ListN.{length, take, drop}
@@ -65,20 +65,21 @@ nothingFound = record { count = 0; start = 0; length = 0 }
 abbrev pub noContents : Contents
 noContents = record { control = nothingFound; groups = nothingFound; flow = nothingFound; applications = nothingFound }
 
--- how a walk ends: whether at a sub-TLV that runs past the end, and what was found before
+-- how a walk ends: at which place, whether a sub-TLV there runs past the end, and what was found before
 pub record Walked : Type 0 where
+  pub place : ℕ
   pub past : Bool
   pub contents : Contents
 
 -- the walk from head to head; each takes two octets or more, so the length is steps enough
-unfoldable pub onward : List ℕ → Head → Contents → (ℕ → Contents → Walked) → Walked
-onward o End c next = record { past = false; contents = c }
-onward o Past c next = record { past = true; contents = c }
-onward o (SubTlv type start n) c next = next (start + n) (noted o c type start n)
+unfoldable pub onward : List ℕ → ℕ → Head → Contents → (ℕ → Contents → Walked) → Walked
+onward o i End c next = record { place = i; past = false; contents = c }
+onward o i Past c next = record { place = i; past = true; contents = c }
+onward o i (SubTlv type start n) c next = next (start + n) (noted o c type start n)
 
 unfoldable pub walkFrom : ℕ → List ℕ → ℕ → Contents → Walked
-walkFrom zero o i c = record { past = false; contents = c }
-walkFrom (suc k) o i c = onward o (headAt o i) c (λ j d. walkFrom k o j d)
+walkFrom zero o i c = record { place = i; past = false; contents = c }
+walkFrom (suc k) o i c = onward o i (headAt o i) c (λ j d. walkFrom k o j d)
 
 unfoldable pub walked : List ℕ → Walked
 walked o = walkFrom (length o) o 6 noContents
@@ -87,27 +88,32 @@ walked o = walkFrom (length o) o 6 noContents
 abbrev pub valueOf : List ℕ → Found → List ℕ
 valueOf o x = take (x .length) (drop (x .start) o)
 
--- 01, Refusal numbers 3 to 8
+-- and where its head stands, two octets before it
+abbrev pub headOf : Found → ℕ
+headOf x = x .start - 2
+
+-- 01, Refusal numbers 3 to 8, and 02, E2: "a place, counted from 0 at the TLV's first octet: 0 for 3 and 4, the head of the sub-TLV that
+-- runs over for 5, the end of the input for 6, the control's head for 7 and 8"
 -- 3: "fewer than 6 octets, type not 127, or OUI or subtype differs"
 unfoldable pub isDcbx : List ℕ → Bool
 isDcbx o = 6 atmost length o && typeAt o 0 is 127 && same (take 4 (drop 2 o)) fixedOctets
 
 -- 6: "no control sub-TLV"; 7: "exactly one control, length not 10"; 8: "its Oper is above its Max"
-abbrev pub judgedBy : Contents → ℕ → ℕ → Reading
-judgedBy c oper max =
-    if c .control .count is 0 then Refused NoControl
+abbrev pub judgedBy : ℕ → Contents → ℕ → ℕ → Reading
+judgedBy end c oper max =
+    if c .control .count is 0 then Refused NoControl end
     else if 1 below c .control .count then Accepted c
-    else if not (c .control .length is 10) then Refused ControlLength
-    else if max below oper then Refused ControlVersion
+    else if not (c .control .length is 10) then Refused ControlLength (headOf (c .control))
+    else if max below oper then Refused ControlVersion (headOf (c .control))
     else Accepted c
 
 unfoldable pub judgedControl : List ℕ → Contents → Reading
-judgedControl o c = judgedBy c (at o (c .control .start)) (at o (c .control .start + 1))
+judgedControl o c = judgedBy (length o) c (at o (c .control .start)) (at o (c .control .start + 1))
 
 -- 4: "length field is not the octets after the head"; 5: "a sub-TLV, or its head, runs past the end"
 unfoldable pub readFrame : List ℕ → Reading
 readFrame o =
-    if not (isDcbx o) then Refused NotDcbx
-    else if not (lengthAt o 0 + 2 is length o) then Refused WrongLength
-    else if walked o .past then Refused PastEnd
+    if not (isDcbx o) then Refused NotDcbx 0
+    else if not (lengthAt o 0 + 2 is length o) then Refused WrongLength 0
+    else if walked o .past then Refused PastEnd (walked o .place)
     else judgedControl o (walked o .contents)

@@ -21,13 +21,17 @@ refusalNumber NoNotice = 12
 refusalNumber NoPort = 16
 
 -- An answer in document 01's numbers: 0 and the values that stand beside it, or the number of a refusal: "A refusal returns its number
--- alone".
+-- alone". 02, E2: "The reader's refusals 3 to 8 are to carry, beside the number, a place"; all else has place 0.
 pub record Reply : Type 0 where
   pub number : ℕ
+  pub place : ℕ
   pub values : List ℕ
 
 abbrev pub done : List ℕ → Reply
-done values = record { number = 0; values = values }
+done values = record { number = 0; place = 0; values = values }
+
+abbrev pub refusalAt : Refusal → ℕ → Reply
+refusalAt why place = record { number = refusalNumber why; place = place; values = [] }
 
 abbrev pub refusal : Refusal → Reply
-refusal why = record { number = refusalNumber why; values = [] }
+refusal why = refusalAt why 0

@@ -8,7 +8,7 @@ use Rattle.tlv.specs.declared.Found.{Found}
 use Rattle.tlv.specs.declared.Contents.{Contents}
 use Rattle.tlv.specs.declared.Reading.{Reading}
 use Rattle.tlv.specs.declared.Reading.the-variants.{Refused, Accepted}
-use Rattle.tlv.specs.Refusals.{Reply, done, refusal}
+use Rattle.tlv.specs.Refusals.{Reply, done, refusalAt}
 
 -- how often a type came, and the place and the length of the last one's value
 abbrev pub foundValues : Found → List ℕ
@@ -16,12 +16,12 @@ foundValues x = x .count ∷ x .start ∷ x .length ∷ []
 
 -- what stands at a place of the TLV: nothing at its end; "a sub-TLV, or its head, runs past the end"; or a sub-TLV's type and the place and
 -- the length of its value
-abbrev pub headReply : Head → Reply
-headReply End = done []
-headReply Past = refusal PastEnd
-headReply (SubTlv type start n) = done (type ∷ start ∷ n ∷ [])
+abbrev pub headReply : ℕ → Head → Reply
+headReply place End = done []
+headReply place Past = refusalAt PastEnd place
+headReply place (SubTlv type start n) = done (type ∷ start ∷ n ∷ [])
 
--- refusals 3 to 8; or what was found of control, priority groups, flow control and applications
+-- refusals 3 to 8, each with its place; or what was found of control, priority groups, flow control and applications
 abbrev pub readingReply : Reading → Reply
-readingReply (Refused why) = refusal why
+readingReply (Refused why place) = refusalAt why place
 readingReply (Accepted c) = done (foundValues (c .control) ++ foundValues (c .groups) ++ foundValues (c .flow) ++ foundValues (c .applications))

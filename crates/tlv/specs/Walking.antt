@@ -34,13 +34,14 @@ pub record Handed : Type 0 where
   pub start : ℕ
   pub length : ℕ
 
--- A walk with the reader r: the sub-TLVs that `next` hands out, in order, while the reader is moved behind each; and the answer that
--- is none.
-pub data Meets : Reader → List Handed → Head → Type 0 where
-  ends : {r : Reader} → Next r End → Meets r [] End
-  overruns : {r : Reader} → Next r Past → Meets r [] Past
-  hands : {r q : Reader} {type start n : ℕ} {ms : List Handed} {last : Head} → Next r (SubTlv type start n) → Moved r (start + n) q → Meets q ms last
-      → Meets r (record { type = type; start = start; length = n } ∷ ms) last
+-- A walk with the reader r: the sub-TLVs that `next` hands out, in order, while the reader is moved behind each; and the place of the
+-- answer that is none, and this answer.
+pub data Meets : Reader → List Handed → ℕ → Head → Type 0 where
+  ends : {r : Reader} → Next r End → Meets r [] (r .at) End
+  overruns : {r : Reader} → Next r Past → Meets r [] (r .at) Past
+  hands : {r q : Reader} {type start n : ℕ} {ms : List Handed} {place : ℕ} {last : Head}
+      → Next r (SubTlv type start n) → Moved r (start + n) q → Meets q ms place last
+      → Meets r (record { type = type; start = start; length = n } ∷ ms) place last
 
 -- sub-TLVs noted one after the other
 unfoldable pub notedAll : List ℕ → List Handed → Contents → Contents
@@ -48,13 +49,14 @@ notedAll o [] c = c
 notedAll o (m ∷ ms) c = notedAll o ms (noted o c (m .type) (m .start) (m .length))
 
 -- what is met is what `walked` notes, in order; then comes the end, or past exactly where the walk says so: where refusal 5 is given,
--- in a frame that 3 and 4 leave
-pub record AsWalked (o : List ℕ) (ms : List Handed) (last : Head) : Type 0 where
+-- with this place, in a frame that 3 and 4 leave
+pub record AsWalked (o : List ℕ) (ms : List Handed) (i : ℕ) (last : Head) : Type 0 where
   pub contents : walked o .contents ≡ notedAll o ms noContents
+  pub place : walked o .place ≡ i
   pub answer : last ≡ (if walked o .past then Past else End)
-  pub refused : isDcbx o ≡ true → lengthAt o 0 + 2 ≡ length o → (last ≡ Past) ↔ (readFrame o ≡ Refused PastEnd)
+  pub refused : isDcbx o ≡ true → lengthAt o 0 + 2 ≡ length o → (last ≡ Past) ↔ (readFrame o ≡ Refused PastEnd i)
 
 -- The thin reader can be walked with: from `new` on there is a walk to an end, and each is as `walked` says.
 pub record Walkable (src : RefT (List ℕ)) : Type 0 where
-  pub ends : (r : Reader) → New src r → (ms : List Handed) × (last : Head) × Meets r ms last
-  pub met : (r : Reader) (ms : List Handed) (last : Head) → New src r → Meets r ms last → AsWalked (now src) ms last
+  pub ends : (r : Reader) → New src r → (ms : List Handed) × (place : ℕ) × (last : Head) × Meets r ms place last
+  pub met : (r : Reader) (ms : List Handed) (place : ℕ) (last : Head) → New src r → Meets r ms place last → AsWalked (now src) ms place last

@@ -4,7 +4,7 @@ ghost use Prim.Native.Nat.{_+_, _-_, _*_, _%_, _<_, _≤_, _^_};
 ghost use lib.ListN.{length, drop};
 ghost use lib.Seq.{sets};
 ghost use Rattle.tlv.specs.Refusals.{refusalNumber};
-ghost use Rattle.tlv.specs.Layout.{headAt, counts, foundAgain, noContents, isDcbx, frameHead};
+ghost use Rattle.tlv.specs.Layout.{headAt, counts, foundAgain, noContents, headOf, isDcbx, frameHead};
 ghost use Rattle.tlv.specs.Halting.{notedAt, noControl, controlIn, keptBehind, begun, passed, judged, finished};
 ghost use Rattle.tlv.specs.HaltingLaws.{Room, Came, Ahead, judgedEnd};
 ghost use Rattle.tlv.specs.Promises.{ReadPromise};
@@ -100,9 +100,9 @@ pub enum Step {
     Halted(Walk),
 }
 
-// What reading a frame gives.
+// What reading a frame gives: a refusal and its place, counted from 0 at the TLV's first octet (02, E2), or what the frame has.
 pub enum Reading {
-    Refused(Refusal),
+    Refused(Refusal, usize),
     Accepted(Contents),
 }
 
@@ -270,22 +270,32 @@ fn nothing_found() -> Contents
     }
 }
 
-// Refusals 6 to 8, by what a walk kept that came to the end.
-fn judge_control(c: Contents, k: Control) -> Reading
-    ensures { λ r. ⌜ r ≡ judged c k ⌝ }
+// Where the head of a value stands.
+fn head_of(x: Found) -> usize
+    ensures { λ r. ⌜ r ≡ headOf x ⌝ }
+{
+    if x.start < 2 {
+        return 0;
+    }
+    x.start - 2
+}
+
+// Refusals 6 to 8, by what a walk kept that came to the end of the whole.
+fn judge_control(end: usize, c: Contents, k: Control) -> Reading
+    ensures { λ r. ⌜ r ≡ judged end c k ⌝ }
 {
     let control = c.control;
     if control.count == 0 {
-        return Reading::Refused(Refusal::NoControl);
+        return Reading::Refused(Refusal::NoControl, end);
     }
     if 1 < control.count {
         return Reading::Accepted(c);
     }
     if control.length != CONTROL_LENGTH {
-        return Reading::Refused(Refusal::ControlLength);
+        return Reading::Refused(Refusal::ControlLength, head_of(control));
     }
     if k.max < k.oper {
-        return Reading::Refused(Refusal::ControlVersion);
+        return Reading::Refused(Refusal::ControlVersion, head_of(control));
     }
     Reading::Accepted(c)
 }
@@ -336,15 +346,16 @@ fn judge_end(s: &[u8], base: usize, count: u8, k: Control, c: Contents) -> Readi
     ensures { λ r. ⌜ r ≡ judgedEnd base (now (s .entry)) count k c ⌝ }
 {
     let found = c.control;
+    let whole = base + s.len();
     if found.count != 1 {
-        return judge_control(c, k);
+        return judge_control(whole, c, k);
     }
     if count != 0 {
-        return judge_control(c, k);
+        return judge_control(whole, c, k);
     }
     let start = found.start - base;
     let end = start + found.length;
-    judge_control(c, control_in(&s[start..end]))
+    judge_control(whole, c, control_in(&s[start..end]))
 }
 
 // Goes on from head to head to the end, over `s`, the octets from `base` of the whole on.
@@ -362,7 +373,8 @@ fn walk_on(s: &[u8], base: usize, w: Walk) -> Reading
                 return judge_end(s, base, before.count, w.control, contents);
             }
             Head::Past => {
-                return Reading::Refused(Refusal::PastEnd);
+                let place = base + at;
+                return Reading::Refused(Refusal::PastEnd, place);
             }
             Head::SubTlv {
                 kind,
@@ -397,15 +409,15 @@ fn is_dcbx(s: &[u8]) -> bool
     octets::same_octets(&s[2..6], &FIXED)
 }
 
-// Reads a frame: refusals 3 to 8, lowest number first (01, Refusal numbers), or what it has.
+// Reads a frame: refusals 3 to 8, lowest number first (01, Refusal numbers), each with its place, or what it has.
 pub fn read(s: &[u8]) -> Reading
     ensures { λ r. ⌜ ReadPromise (now (s .entry)) r ⌝ }
 {
     if !is_dcbx(s) {
-        return Reading::Refused(Refusal::NotDcbx);
+        return Reading::Refused(Refusal::NotDcbx, 0);
     }
     if length_of(s[0], s[1]) + 2 != s.len() {
-        return Reading::Refused(Refusal::WrongLength);
+        return Reading::Refused(Refusal::WrongLength, 0);
     }
     walk_on(s, 0, begin_walk())
 }

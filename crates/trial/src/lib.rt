@@ -18,9 +18,9 @@
 // 9 nothing happens, whatever the port, and the states of all four ports are written
 // 7 and 8 do nothing at a number that is not 1 to 4.
 //
-// What a step writes: of a write the lent output; then refusal or 0, whether a send is asked, the length of a written
-// frame (2 octets), number and feature of a notice taken, the numbers of the notices raised (of the port and of features 2, 3
-// and 4, 0 for none); then the state of the port as in tests/reference/src/dump.rs, or nothing where no port has the number;
+// What a step writes: of a write the lent output; then refusal or 0, the place where a frame went wrong or 0 (2 octets), whether
+// a send is asked, the length of a written frame (2 octets), number and feature of a notice taken, the numbers of the notices
+// raised (of the port and of features 2, 3 and 4, 0 for none); then the state of the port as in tests/reference/src/dump.rs, or nothing where no port has the number;
 // then the log: how many notices are held (1 octet), the dropped counts of ports 1 to 4 (4 octets each), and of each notice,
 // oldest first, the port, the number and the feature.
 ghost use Prim.Native.Nat.{_<_, _≤_};

@@ -37,7 +37,7 @@ fn end_of(x: Found) -> u64 {
 // Something of a frame that was read.
 fn seen(f: Reading) -> u64 {
     match f {
-        Reading::Refused(why) => {
+        Reading::Refused(why, _) => {
             return tlv::refusal_number(why) as u64;
         }
         Reading::Accepted(c) => {
@@ -54,7 +54,7 @@ fn told(e: Event) -> u64 {
         Answer::Done(wish) => {
             return wish as u64;
         }
-        Answer::Refused(why) => {
+        Answer::Refused(why, _) => {
             return tlv::refusal_number(why) as u64;
         }
     }

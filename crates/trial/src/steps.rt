@@ -29,6 +29,7 @@ pub struct Left {
 // to 4, 0 for none.
 struct Told {
     refusal: u8,
+    place: usize,
     wish: bool,
     length: usize,
     notice: u8,
@@ -116,10 +117,11 @@ fn octets_of(kind: u8, body: &[u8]) -> &[u8] {
 
 // ---- what is told
 
-fn refused(why: Refusal) -> Told {
+fn refused(why: Refusal, place: usize) -> Told {
     let number = tlv::refusal_number(why);
     Told {
         refusal: number,
+        place: place,
         wish: false,
         length: 0,
         notice: 0,
@@ -131,6 +133,7 @@ fn refused(why: Refusal) -> Told {
 fn done(wish: bool, length: usize, notice: u8, feature: u8) -> Told {
     Told {
         refusal: 0,
+        place: 0,
         wish: wish,
         length: length,
         notice: notice,
@@ -159,7 +162,7 @@ fn answered(x: Answer, n: Notices) -> Told {
             told.raised = numbers;
             told
         }
-        Answer::Refused(why) => refused(why),
+        Answer::Refused(why, place) => refused(why, place),
     }
 }
 
@@ -169,20 +172,22 @@ fn took(x: Took) -> Told {
             let kind = n.kind;
             done(false, 0, notices::notice_number(kind), n.feature)
         }
-        Took::Refused(why) => refused(why),
+        Took::Refused(why) => refused(why, 0),
     }
 }
 
 fn wrote(x: Written) -> Told {
     match x {
         Written::Octets(n) => done(false, n, 0, 0),
-        Written::Refused(why) => refused(why),
+        Written::Refused(why) => refused(why, 0),
     }
 }
 
 fn put_told(out: &mut [u8], at: usize, x: Told) -> usize {
     let octets = [
         x.refusal,
+        (x.place / 256 % 256) as u8,
+        (x.place % 256) as u8,
         x.wish as u8,
         (x.length / 256 % 256) as u8,
         (x.length % 256) as u8,

@@ -77,7 +77,9 @@ impl Script {
         put_step(&mut self.octets, &step);
         self.starts.push(self.expected.len());
         self.expected.extend(&answer.output);
-        self.expected.extend([answer.refusal, u8::from(answer.wish)]);
+        self.expected.push(answer.refusal);
+        self.expected.extend(answer.place.to_be_bytes());
+        self.expected.push(u8::from(answer.wish));
         self.expected.extend((answer.length as u16).to_be_bytes());
         let taken = answer.taken.unwrap_or_default();
         self.expected.extend([taken.number, taken.feature]);

@@ -186,7 +186,7 @@ pub fn named<'a>(step: &Step, octets: &'a [u8]) -> Vec<(String, &'a [u8])> {
     if let What::Event(Event::Write(room)) = step.what {
         named.take("output", room);
     }
-    let answer = [("refusal", 1), ("send", 1), ("length", 2), ("notice taken", 2)];
+    let answer = [("refusal", 1), ("place", 2), ("send", 1), ("length", 2), ("notice taken", 2)];
     for (name, size) in answer {
         named.take(name, size);
     }

@@ -18,6 +18,8 @@ const STEPS: usize = 1_000;
 struct Coverage {
     /// 13 to 15 are not given yet.
     refusals: [u32; 17],
+    /// Refusals 5 to 8, which have a place other than 0: at 6, the first, and later.
+    places: [[u32; 2]; 4],
     /// By feature, then by reason.
     became: [[u32; 10]; 3],
     notices: [u32; 11],
@@ -73,6 +75,15 @@ impl DroppedBy {
 }
 
 impl Coverage {
+    fn note_refusal(&mut self, answer: &Answer) {
+        self.refusals[usize::from(answer.refusal)] += 1;
+        if let 5..=8 = answer.refusal {
+            let [first, later] = &mut self.places[usize::from(answer.refusal) - 5];
+            *first += u32::from(answer.place == 6);
+            *later += u32::from(answer.place > 6);
+        }
+    }
+
     /// What an event did to its port.
     fn note_port(&mut self, before: &Port, after: &Port) {
         if before.control().seqno == u32::MAX && after.control().seqno == 0 {
@@ -107,6 +118,7 @@ impl Coverage {
         for (number, &count) in self.refusals.iter().enumerate() {
             assert_eq!(count > 0, !(13..16).contains(&number), "{self:#?}");
         }
+        assert!(self.places.as_flattened().iter().all(|&count| count > 0), "{self:#?}");
         assert!(self.notices[2..].iter().all(|&count| count > 0), "{self:#?}");
         for reason in Reason::ALL {
             let each = self.became.map(|counts| counts[reason as usize]);
@@ -199,7 +211,7 @@ fn the_engines_agree() {
         let before = source.generator.recorder().clone();
         let (step, answer) = source.next();
         let after = source.generator.recorder();
-        coverage.refusals[usize::from(answer.refusal)] += 1;
+        coverage.note_refusal(&answer);
         coverage.looks += u32::from(step.what == What::Look);
         if let (What::Event(_), Ok(was), Ok(is)) =
             (&step.what, before.port(step.port), after.port(step.port))

@@ -87,6 +87,8 @@ pub const FILL: u8 = 0xa5;
 pub struct Answer {
     /// 0 if not refused.
     pub refusal: u8,
+    /// Where a refused frame went wrong, else 0.
+    pub place: u16,
     /// Whether the event asks for a send.
     pub wish: bool,
     /// Length of a written frame.
@@ -103,6 +105,7 @@ impl Answer {
     pub fn plain(result: Result<bool, u8>) -> Self {
         Answer {
             refusal: result.err().unwrap_or(0),
+            place: 0,
             wish: result.unwrap_or(false),
             length: 0,
             taken: None,
@@ -124,7 +127,13 @@ impl Call {
         let port = self.port;
         match &self.event {
             Event::Create(settings) => Answer::plain(recorder.create(port, &settings.lend())),
-            Event::Frame(octets) => Answer::plain(recorder.frame(port, octets)),
+            Event::Frame(octets) => {
+                let result = recorder.frame(port, octets);
+                Answer {
+                    place: result.err().map_or(0, |refusal| refusal.place),
+                    ..Answer::plain(result.map_err(|refusal| refusal.number))
+                }
+            }
             Event::PeerGone => Answer::plain(recorder.peer_gone(port)),
             Event::SetFlag(flag, on) => Answer::plain(recorder.set_flag(port, *flag, *on)),
             Event::Change { feature, setting } => {

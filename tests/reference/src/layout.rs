@@ -1,6 +1,6 @@
 //! TLV layout: reading a frame, the three kinds of parameters, and their octets.
 
-use crate::refusal;
+use crate::refusal::{self, Refusal};
 
 /// TLV type of an organisation's own TLV.
 pub const TLV_TYPE: u8 = 127;
@@ -39,10 +39,12 @@ fn number(octets: &[u8]) -> u32 {
     u32::from_be_bytes([octets[0], octets[1], octets[2], octets[3]])
 }
 
-/// One sub-TLV: its type and the octets behind its head.
+/// One sub-TLV: its type, the place of its head in the frame, and the octets
+/// behind its head.
 #[derive(Clone, Copy, Debug, PartialEq, Eq)]
 pub struct SubTlv<'a> {
     pub kind: u8,
+    pub place: usize,
     pub body: &'a [u8],
 }
 
@@ -50,40 +52,44 @@ pub struct SubTlv<'a> {
 #[derive(Clone, Debug)]
 pub struct SubTlvs<'a> {
     rest: &'a [u8],
+    /// Of the whole frame, which ends where the rest does.
+    length: usize,
 }
 
 impl<'a> SubTlvs<'a> {
-    /// Checks the head of the whole TLV (refusals 3 and 4).
+    /// Checks the head of the whole TLV (refusals 3 and 4, at place 0).
     #[inline]
-    pub fn of(octets: &'a [u8]) -> Result<Self, u8> {
+    pub fn of(octets: &'a [u8]) -> Result<Self, Refusal> {
         if octets.len() < 6 {
-            return Err(refusal::NOT_DCBX);
+            return Err(refusal::NOT_DCBX.into());
         }
         let (kind, length) = parse_head([octets[0], octets[1]]);
         if kind != TLV_TYPE || octets[2..5] != OUI || octets[5] != SUBTYPE {
-            return Err(refusal::NOT_DCBX);
+            return Err(refusal::NOT_DCBX.into());
         }
         if length != octets.len() - 2 {
-            return Err(refusal::LENGTH_FIELD);
+            return Err(refusal::LENGTH_FIELD.into());
         }
-        Ok(SubTlvs { rest: &octets[6..] })
+        Ok(SubTlvs { rest: &octets[6..], length: octets.len() })
     }
 
-    /// The next sub-TLV, none at the end, or refusal 5.
+    /// The next sub-TLV, none at the end, or refusal 5 at the next one's head.
     #[inline]
-    pub fn hand_out(&mut self) -> Result<Option<SubTlv<'a>>, u8> {
+    pub fn hand_out(&mut self) -> Result<Option<SubTlv<'a>>, Refusal> {
+        let place = self.length - self.rest.len();
+        let past_the_end = Refusal::at(refusal::PAST_THE_END, place);
         match *self.rest {
             [] => Ok(None),
             [first, second, ref behind @ ..] => {
                 let (kind, length) = parse_head([first, second]);
                 if length > behind.len() {
-                    return Err(refusal::PAST_THE_END);
+                    return Err(past_the_end);
                 }
                 let (body, rest) = behind.split_at(length);
                 self.rest = rest;
-                Ok(Some(SubTlv { kind, body }))
+                Ok(Some(SubTlv { kind, place, body }))
             }
-            [_] => Err(refusal::PAST_THE_END),
+            [_] => Err(past_the_end),
         }
     }
 }
@@ -120,12 +126,16 @@ pub struct Frame<'a> {
     pub applications: Found<'a>,
 }
 
-/// Reads a whole frame, or gives the lowest of refusals 3 to 8.
-pub fn read(octets: &[u8]) -> Result<Frame<'_>, u8> {
+/// Reads a whole frame, or gives the lowest of refusals 3 to 8 with its place.
+pub fn read(octets: &[u8]) -> Result<Frame<'_>, Refusal> {
     let mut sub_tlvs = SubTlvs::of(octets)?;
-    // Counted by type; place 0 stays unused.
+    // Counted by type; the first counts nothing.
     let mut found = [Found::Absent; 5];
-    while let Some(SubTlv { kind, body }) = sub_tlvs.hand_out()? {
+    let mut control_place = 0;
+    while let Some(SubTlv { kind, place, body }) = sub_tlvs.hand_out()? {
+        if kind == CONTROL {
+            control_place = place;
+        }
         let counts = match kind {
             CONTROL => true,
             // A SubType other than 0 makes it another feature.
@@ -133,8 +143,8 @@ pub fn read(octets: &[u8]) -> Result<Frame<'_>, u8> {
             _ => false,
         };
         if counts {
-            let place = &mut found[usize::from(kind)];
-            *place = match *place {
+            let times = &mut found[usize::from(kind)];
+            *times = match *times {
                 Found::Absent => Found::Once(body),
                 _ => Found::Several,
             };
@@ -142,11 +152,11 @@ pub fn read(octets: &[u8]) -> Result<Frame<'_>, u8> {
     }
     let [_, control, groups, flow, applications] = found;
     let controls = match control {
-        Found::Absent => return Err(refusal::NO_CONTROL),
+        Found::Absent => return Err(Refusal::at(refusal::NO_CONTROL, octets.len())),
         Found::Several => Controls::Several,
         Found::Once(body) => {
             if body.len() != CONTROL_LENGTH {
-                return Err(refusal::CONTROL_LENGTH);
+                return Err(Refusal::at(refusal::CONTROL_LENGTH, control_place));
             }
             let control = ReceivedControl {
                 oper: body[0],
@@ -155,12 +165,20 @@ pub fn read(octets: &[u8]) -> Result<Frame<'_>, u8> {
                 ackno: number(&body[6..10]),
             };
             if control.oper > control.max {
-                return Err(refusal::CONTROL_VERSIONS);
+                return Err(Refusal::at(refusal::CONTROL_VERSIONS, control_place));
             }
             Controls::One(control)
         }
     };
     Ok(Frame { controls, groups, flow, applications })
+}
+
+/// Number and place of the refusal from 3 to 8; both 0 where none applies.
+pub fn judge(octets: &[u8]) -> (u8, usize) {
+    match read(octets) {
+        Ok(_) => (0, 0),
+        Err(Refusal { number, place }) => (number, place.into()),
+    }
 }
 
 /// A feature's whole parameters, as read from the octets behind the first four

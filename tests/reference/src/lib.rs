@@ -25,4 +25,5 @@ pub use log::{Log, Notice};
 pub use outcome::{Feature, Peer, Reason};
 pub use port::{ControlState, Flag, Flags, Port};
 pub use recorder::{Recorder, PORTS};
+pub use refusal::Refusal;
 pub use settings::{FeatureSetting, Setting, Settings};

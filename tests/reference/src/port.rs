@@ -6,7 +6,7 @@ use crate::layout::{
 };
 use crate::log::{self, Writer};
 use crate::outcome::{Feature, Reason, Shown};
-use crate::refusal;
+use crate::refusal::{self, Refusal};
 use crate::settings::{FeatureSetting, Setting, Settings};
 
 /// The control machine.
@@ -114,12 +114,12 @@ impl Port {
     }
 
     /// A frame arrived. The answer says whether to send.
-    pub(crate) fn frame(&mut self, octets: &[u8], log: &mut Writer) -> Result<bool, u8> {
+    pub(crate) fn frame(&mut self, octets: &[u8], log: &mut Writer) -> Result<bool, Refusal> {
         if !self.running() {
-            return Err(refusal::NOT_RUNNING);
+            return Err(refusal::NOT_RUNNING.into());
         }
         if self.flags.several_neighbours {
-            return Err(refusal::SEVERAL_NEIGHBOURS);
+            return Err(refusal::SEVERAL_NEIGHBOURS.into());
         }
         let frame = layout::read(octets)?;
         let before = self.written();

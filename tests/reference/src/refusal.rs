@@ -1,4 +1,4 @@
-//! Refusal numbers.
+//! Refusal numbers, and where a frame went wrong.
 
 /// The port isn't running: a frame, peer gone, or a request to write.
 pub const NOT_RUNNING: u8 = 1;
@@ -26,3 +26,32 @@ pub const NO_SUCH_FEATURE: u8 = 11;
 pub const NO_NOTICE: u8 = 12;
 /// The port number is not 1 to 4. Before all others.
 pub const NO_SUCH_PORT: u8 = 16;
+
+/// Why a frame is refused: the number, and for 3 to 8 the place, from 0 at the
+/// TLV's first octet (document 02, E2). Beside any other number the place is 0.
+#[derive(Clone, Copy, Debug, PartialEq, Eq)]
+pub struct Refusal {
+    pub number: u8,
+    pub place: u16,
+}
+
+impl Refusal {
+    /// A frame that is refused elsewhere than at 0 has at most 513 octets.
+    #[inline]
+    pub(crate) fn at(number: u8, place: usize) -> Self {
+        Refusal { number, place: place as u16 }
+    }
+
+    /// Whether the place says something of the frame.
+    pub fn has_place(&self) -> bool {
+        (NOT_DCBX..=CONTROL_VERSIONS).contains(&self.number)
+    }
+}
+
+/// A refusal at place 0.
+impl From<u8> for Refusal {
+    #[inline]
+    fn from(number: u8) -> Self {
+        Refusal { number, place: 0 }
+    }
+}

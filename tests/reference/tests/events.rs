@@ -4,7 +4,7 @@
 mod common;
 use common::*;
 use reference::events::{Answer, Call, Event, Generator, FILL};
-use reference::layout::{Controls, Found};
+use reference::layout::{judge, Controls, Found};
 use reference::{Log, Notice, Port, Reason, Recorder, Setting};
 use std::collections::BTreeMap;
 
@@ -314,6 +314,12 @@ impl Counts {
         self.refusals[usize::from(answer.refusal)] += 1;
         self.wishes += u32::from(answer.wish);
         lawful_log(after.log());
+        match &call.event {
+            Event::Frame(octets) if (3..=8).contains(&answer.refusal) => {
+                assert_eq!((answer.refusal, answer.place.into()), judge(octets));
+            }
+            _ => assert_eq!(answer.place, 0),
+        }
         if (1..=4).contains(&call.port) {
             assert_ne!(answer.refusal, 16);
             self.at_port(call, answer, before, after);

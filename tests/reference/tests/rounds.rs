@@ -28,7 +28,7 @@ fn refused(rng: &mut XorShift, recorder: &mut Recorder, port: u8) {
             2 => {
                 let number = rng.pick(&[0, 5, 255]);
                 let octets = written_at(recorder, port).unwrap();
-                assert_eq!(recorder.frame(number, &octets), Err(16));
+                assert_eq!(recorder.frame(number, &octets), Err(16.into()));
                 assert_eq!(recorder.write(number, &mut [0; 147]), Err(16));
             }
             _ => {

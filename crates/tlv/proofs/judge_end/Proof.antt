@@ -4,6 +4,9 @@ use Rattle.tlv.specs.HaltingLaws.{came-place, came-inside, came-fits, en
 use Rattle.tlv.proofs.judge_end.Statement.{statement}
 use Rattle.tlv.proofs.judge_end.Tie as tie
 
+add-whole : tie.Need-add-whole
+add-whole c = search needs
+
 judge-control-requires : tie.Need-judge-control-requires
 judge-control-requires c κs = search needs
 
@@ -44,6 +47,7 @@ pub judge-end-spec : {M : Type 1} → statement M
 judge-end-spec =
     tie.close
     (tie.spec
+    add-whole
     judge-control-requires
     returns
     judge-control-requires-2

@@ -1,7 +1,7 @@
 -- `tlv::read` keeps its promise: a law for each of refusals 3 and 4, and the walk begun and gone on with for the rest. Assumes nothing.
 use borrow.Author.Needs.{needs}
 use Rattle.tlv.specs.Laws.{dcbx-some, dcbx-long}
-use Rattle.tlv.specs.ResumingLaws.{read-other, read-length, read-finished}
+use Rattle.tlv.specs.ResumingLaws.{read-other, read-length, read-ahead, read-finished}
 use Rattle.tlv.proofs.read.Statement.{statement}
 use Rattle.tlv.proofs.read.Tie as tie
 
@@ -30,7 +30,7 @@ begin-walk-requires : tie.Need-begin-walk-requires
 begin-walk-requires c κs = search needs
 
 walk-on-requires : tie.Need-walk-on-requires
-walk-on-requires c κs = search needs
+walk-on-requires c κs = search read-ahead
 
 returns-3 : tie.Need-returns-3
 returns-3 c = search read-finished

@@ -3,7 +3,7 @@ use borrow.Author.Needs.{needs}
 use Prim.Native.Nat.{_-_}
 use lib.ListN.{length}
 use Rattle.tlv.specs.Laws.{head-onward}
-use Rattle.tlv.specs.HaltingLaws.{GoingOn, finish-start, finish-came, finish-end, finish-past, finish-room, finish-place, finish-on}
+use Rattle.tlv.specs.HaltingLaws.{GoingOn, finish-start, finish-came, finish-end, finish-overrun, finish-past, finish-room, finish-place, finish-on}
 use Rattle.tlv.proofs.walk_on.Statement.{statement}
 use Rattle.tlv.proofs.walk_on.Tie as tie
 
@@ -33,6 +33,9 @@ returns c = search finish-end
 
 enum-told-2 : tie.Need-enum-told-2 Inv-loop μ-loop
 enum-told-2 c = search needs
+
+add-place : tie.Need-add-place Inv-loop μ-loop
+add-place c = record { fits = search (finish-overrun, c .before .before .before .loop .inv) }
 
 returns-2 : tie.Need-returns-2 Inv-loop μ-loop
 returns-2 c = search (finish-past, c .before .before .before .loop .inv)
@@ -65,6 +68,7 @@ walk-on-spec =
     judge-end-requires
     returns
     enum-told-2
+    add-place
     returns-2
     enum-known-head
     note-requires

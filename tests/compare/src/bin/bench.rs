@@ -92,7 +92,7 @@ fn read_many(frames: &[u8], size: usize, times: usize) -> u64 {
         };
         let seen = match layout::read(frame) {
             Ok(read) => place(read.groups) + place(read.flow) + place(read.applications),
-            Err(number) => number.into(),
+            Err(refusal) => refusal.number.into(),
         };
         sum.wrapping_add(seen)
     })
@@ -105,7 +105,7 @@ fn handle_many(settings: &OwnedSettings, frames: &[u8], size: usize, times: usiz
     all.take(times).fold(0, |sum: u64, (frame, port)| {
         let told = match recorder.frame(port, frame) {
             Ok(wish) => wish.into(),
-            Err(number) => number.into(),
+            Err(refusal) => refusal.number.into(),
         };
         sum.wrapping_add(told)
     })

@@ -4,7 +4,7 @@ use reference::dump;
 use reference::layout::{Parameters, APPLICATIONS, FLOW_CONTROL, PRIORITY_GROUPS};
 use reference::setup::{self, Failure};
 use reference::text::{self, Lines, Text};
-use reference::{Feature, Flag, Log, Port, Recorder, Setting};
+use reference::{Feature, Flag, Log, Port, Recorder, Refusal, Setting};
 use std::io;
 
 /// The most octets of a frame, of parameters and of an output that a line names.
@@ -120,15 +120,15 @@ impl Desk {
     }
 
     /// Does an event at the port at hand, and answers it with the notices that it wrote.
-    fn event(
+    fn event<R: Into<Refusal>>(
         &mut self,
         out: &mut Text,
-        event: impl FnOnce(&mut Recorder, u8, &[u8]) -> Result<bool, u8>,
+        event: impl FnOnce(&mut Recorder, u8, &[u8]) -> Result<bool, R>,
     ) -> Option<()> {
         let before = self.recorder.log().written();
         match event(&mut self.recorder, self.port, &self.octets) {
             Ok(wish) => out.put(if wish { "done send\n" } else { "done\n" }),
-            Err(number) => refused(number, out),
+            Err(refusal) => refused(refusal, out),
         };
         for notice in self.recorder.log().since(before) {
             out.notice(notice);
@@ -145,8 +145,14 @@ impl Desk {
     }
 }
 
-fn refused(number: u8, out: &mut Text) -> &mut Text {
-    out.put("refused ").number(number).put("\n")
+/// The number, and where the frame went wrong if it is the frame that is refused.
+fn refused(refusal: impl Into<Refusal>, out: &mut Text) -> &mut Text {
+    let refusal = refusal.into();
+    out.put("refused ").number(refusal.number);
+    if refusal.has_place() {
+        out.field("at", refusal.place);
+    }
+    out.put("\n")
 }
 
 /// No word may be left.

@@ -19,6 +19,17 @@ pub const W2: &str = "fe 37 00 1b 21 02 02 0a 00 00 00 00 00 01 00 00 00 00 \
     04 11 00 00 80 00 00 01 00 00 32 32 00 00 00 00 00 00 02 \
     06 06 00 00 80 00 08 08 08 0a 00 00 80 00 89 06 00 1b 21 08";
 
+/// A control that no refusal keeps out.
+pub const CONTROL: &str = "02 0a 00 00 00 00 00 01 00 00 00 00";
+
+/// Octets behind the TLV's head, with a right length field.
+pub fn tlv(behind: &str) -> Vec<u8> {
+    let mut octets = hex("fe 00 00 1b 21 02");
+    octets.extend(hex(behind));
+    octets[1] = (octets.len() - 2) as u8;
+    octets
+}
+
 pub const GROUPS: [u8; 13] = [0, 1, 0, 0, 50, 50, 0, 0, 0, 0, 0, 0, 2];
 pub const FLOW: [u8; 2] = [0x08, 8];
 pub const APPLICATIONS: [u8; 6] = [0x89, 0x06, 0x00, 0x1b, 0x21, 0x08];
@@ -63,8 +74,9 @@ pub struct OnePort(pub Recorder);
 pub const NUMBER: u8 = 3;
 
 impl OnePort {
+    /// A refusal by its number alone; its place is for tests/places.rs.
     pub fn frame(&mut self, octets: &[u8]) -> Result<bool, u8> {
-        self.0.frame(NUMBER, octets)
+        self.0.frame(NUMBER, octets).map_err(|refusal| refusal.number)
     }
 
     pub fn peer_gone(&mut self) -> Result<bool, u8> {

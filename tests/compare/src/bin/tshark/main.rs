@@ -80,7 +80,7 @@ fn compare_received(
 fn among_foreign(rng: &mut XorShift, frame: &[u8]) -> Vec<u8> {
     let mut sub_tlvs = SubTlvs::of(frame).expect("a frame");
     let mut list = Vec::new();
-    while let Some(SubTlv { kind, body }) = sub_tlvs.hand_out().expect("a sub-TLV") {
+    while let Some(SubTlv { kind, body, .. }) = sub_tlvs.hand_out().expect("a sub-TLV") {
         let mut body = body.to_vec();
         if kind == APPLICATIONS {
             let own = body.split_off(FEATURE_HEAD);
