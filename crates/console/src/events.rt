@@ -40,7 +40,7 @@ pub fn answered(out: &mut [u8], at: usize, w: PortWord, e: Event) -> usize {
 pub fn handle(n: u8, p: Port, line: &[u8]) -> Event {
     let k = script::frame_length(line);
     let o = script::frame_octets(line);
-    recorder::apply(n, p, Change::Frame, octets::first(&o, k))
+    recorder::handle(n, p, octets::first(&o, k))
 }
 
 fn port_flag(f: script::Flag) -> Flag {

@@ -318,15 +318,22 @@ module _ (p : Port) (o : List ℕ) {r : Reading} (er : Admits p o r) where
   unfolding given
   handle-refused e ee = rw (admitted-event, e) ee
 
-  pub handle-accepted : {k : Contents} {d : Change} {q : Port} → r ≡ Accepted k → d ≡ changeOf o k p → q ≡ completed p (steps1to4 o k p)
+  handle-accepted : {k : Contents} {d : Change} {q : Port} → r ≡ Accepted k → d ≡ changeOf o k p → q ≡ completed p (steps1to4 o k p)
       → record { answer = Done (d .wish); port = q; notices = d .notices } ≡ handled p o
   unfolding given accepted frameEvent changeOf
   handle-accepted e ed eq = rw (admitted-event, e, ed, eq) refl
 
 -- what the calls on the way need of a frame that is accepted
-module _ {p : Port} {o : List ℕ} {r : Reading} {c : Contents} (a : Admits p o r) (e : r ≡ Accepted c) where
+pub admits-accepted : {p : Port} {o : List ℕ} {r : Reading} {c : Contents} → Admits p o r → r ≡ Accepted c → Admits p o (Accepted c)
+admits-accepted a e = rw (← e) a
+
+module _ {p : Port} {o : List ℕ} {c : Contents} (a : Admits p o (Accepted c)) where
   pub accepted-inside : Inside o c
-  accepted-inside = a .inside c e
+  accepted-inside = a .inside c refl
 
   pub accepted-runs : running p ≡ true
-  accepted-runs = a .runs c e
+  accepted-runs = a .runs c refl
+
+  pub accept-is : {d : Change} {q : Port} → d ≡ changeOf o c p → q ≡ completed p (steps1to4 o c p)
+      → record { answer = Done (d .wish); port = q; notices = d .notices } ≡ handled p o
+  accept-is ed eq = handle-accepted p o a refl ed eq

@@ -4,6 +4,7 @@ ghost use mathlib.Core.Path.{_≡_};
 ghost use mathlib.Core.Bool.{true};
 ghost use Prim.Native.Nat.{_+_, _≤_};
 ghost use lib.ListN.{length};
+ghost use Rattle.tlv.specs.declared.Reading.the-variants.{Accepted};
 ghost use Rattle.tlv.specs.Layout.{valueOf};
 ghost use Rattle.tlv.specs.Promises.{Inside};
 ghost use Rattle.feature.specs.TurnLaws.{changedBy, peerParametersAfter};
@@ -40,7 +41,7 @@ struct Change {
 }
 
 // Reads a frame that arrived, if the port takes it.
-fn admit(p: Port, s: &[u8]) -> Reading
+pub fn admit(p: Port, s: &[u8]) -> Reading
     ensures { λ r. ⌜ Admits p (now (s .entry)) r ⌝ }
 {
     if !port::writing::running(p) {
@@ -242,6 +243,22 @@ fn apply(p: Port, k: Change, s: &[u8], c: Contents) -> Port
     next
 }
 
+// What a frame does of which `admit` says that it is accepted. A caller that has a refusal of its own calls `admit` and this, and
+// not `handle`: an event that comes on several ways is copied once more behind them.
+pub fn accept(p: Port, s: &[u8], c: Contents) -> Event
+    requires { ⌜ Admits p (now s) (Accepted c) ⌝ }
+    ensures { λ r. ⌜ r ≡ handled p (now (s .entry)) ⌝ }
+{
+    let change = decide(p, s, c);
+    let port = apply(p, change, s, c);
+    let notices = change.notices;
+    Event {
+        answer: Answer::Done(change.wish),
+        port: port,
+        notices: notices,
+    }
+}
+
 // Handles a frame that arrived (01, Handling a frame). A refused frame changes nothing; 3 to 8 come with the reader's place.
 pub fn handle(p: Port, s: &[u8]) -> Event
     ensures { λ r. ⌜ r ≡ handled p (now (s .entry)) ⌝ }
@@ -252,14 +269,7 @@ pub fn handle(p: Port, s: &[u8]) -> Event
             return port::events::refuse(why, place, p);
         }
         Reading::Accepted(contents) => {
-            let change = decide(p, s, contents);
-            let port = apply(p, change, s, contents);
-            let notices = change.notices;
-            return Event {
-                answer: Answer::Done(change.wish),
-                port: port,
-                notices: notices,
-            };
+            return accept(p, s, contents);
         }
     }
 }

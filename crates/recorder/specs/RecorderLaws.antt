@@ -6,7 +6,10 @@ use mathlib.Core.List.{List, []}
 use lib.ListN.{set, replicate}
 use borrow.Author.Tests.{not-true, not-false, eq-eqb, ne-eqb, le-leb, lt-leb}
 use Rattle.octets.specs.Words.{if_then_else_, _is_}
+use Rattle.tlv.specs.declared.Refusal.{Refusal}
 use Rattle.tlv.specs.declared.Refusal.the-variants.{NoNotice, NoPort}
+use Rattle.tlv.specs.declared.Reading.{Reading}
+use Rattle.tlv.specs.declared.Reading.the-variants.{Refused}
 use Rattle.parameters.specs.declared.Feature.{Feature}
 use Rattle.parameters.specs.Parameters.{featureNumber}
 use Rattle.feature.specs.declared.Switches.{Switches}
@@ -26,6 +29,7 @@ use Rattle.port.specs.declared.Written.the-variants as wrote
 use Rattle.port.specs.PortEvents.{blankPort, refused, listed, inOrder}
 use Rattle.port.specs.PortEvents as events
 use Rattle.handling.specs.Handling as handling
+use Rattle.handling.specs.HandlingLaws.{Admits, handle-refused}
 use Rattle.port.specs.Writing as writing
 use Rattle.recorder.specs.declared.Recorder.{Recorder}
 use Rattle.recorder.specs.declared.Change.{Change}
@@ -63,6 +67,9 @@ blank-is ep el = rw (ep, el) refl
 
 -- ---- events and writes at a port
 
+pub changed-as-frame : (n : ℕ) (p : Port) {x : Change} (o : List ℕ) {e : Event} → x ≡ change.Frame → e ≡ changed n p change.Frame o → e ≡ changed n p x o
+changed-as-frame n p o ex er = er ∙ rw ex refl
+
 module _ (n : ℕ) (p : Port) {b : Bool} (eb : b ≡ isPort n) where
   module _ {e : Event} (v : Versions) (w : Feature → Switches) (o : Feature → List ℕ) where
     pub created-nowhere : not b ≡ true → e ≡ refused NoPort p → e ≡ created n p v w o
@@ -98,6 +105,13 @@ module _ (n : ℕ) (p : Port) {b : Bool} (eb : b ≡ isPort n) where
       pub changed-setting : {e : Event} {number : ℕ} {w : Switches} → x ≡ change.Setting number w → e ≡ events.changedSetting number w o p → e ≡ changed n p x o
       unfolding happens
       changed-setting ex er = er ∙ rw (← here, ex) refl
+
+  pub changed-handled : {e : Event} (o : List ℕ) → not b ≡ false → e ≡ handling.handled p o → e ≡ changed n p change.Frame o
+  changed-handled o t er = changed-frame change.Frame o t refl er
+
+  pub changed-refused : {e : Event} {r : Reading} {why : Refusal} {place : ℕ} (o : List ℕ) → not b ≡ false → Admits p o r → r ≡ Refused why place
+      → e ≡ events.refusedAt why place p → e ≡ changed n p change.Frame o
+  changed-refused o t a er ee = changed-handled o t (handle-refused p o a er ee)
 
   module _ (out : List ℕ) where
     pub wrote-nowhere : not b ≡ true → Wrote n p out (wrote.Refused NoPort) out

@@ -5,7 +5,6 @@ use port::Answer;
 use port::Event;
 use port::Port;
 use port::Written;
-use recorder::Change;
 use recorder::Recorder;
 use tlv::Found;
 use tlv::Reading;
@@ -122,7 +121,7 @@ pub extern "C" fn trial_handle_many(
     let mut left = times;
     while 0 < left {
         let i = recorder::place_of(n);
-        let e = recorder::apply(n, held.ports[i], Change::Frame, frame_at(frames, at, size));
+        let e = recorder::handle(n, held.ports[i], frame_at(frames, at, size));
         let port = e.port;
         held.ports[i] = port;
         if !recorder::is_silent(e.notices) {
@@ -150,7 +149,7 @@ pub extern "C" fn trial_handle_alone(
     let mut at: usize = 0;
     let mut left = times;
     while 0 < left {
-        let e = recorder::apply(1, port, Change::Frame, frame_at(frames, at, size));
+        let e = recorder::handle(1, port, frame_at(frames, at, size));
         port = e.port;
         if !recorder::is_silent(e.notices) {
             log = recorder::keep(log, 1, e.notices);

@@ -1,5 +1,5 @@
 -- `handling::handle` meets its contract. Assumes nothing.
-use Rattle.handling.specs.HandlingLaws.{handle-refused, handle-accepted, accepted-inside, accepted-runs}
+use Rattle.handling.specs.HandlingLaws.{handle-refused, admits-accepted}
 use borrow.Author.Needs.{needs}
 use Rattle.handling.proofs.handle.Statement.{statement}
 use Rattle.handling.proofs.handle.Tie as tie
@@ -19,14 +19,11 @@ returns c = search handle-refused
 enum-known-read-2 : tie.Need-enum-known-read-2
 enum-known-read-2 c = search needs
 
-decide-requires : tie.Need-decide-requires
-decide-requires c κs = search (accepted-inside, accepted-runs)
-
-apply-requires : tie.Need-apply-requires
-apply-requires c κs = search accepted-inside
+accept-requires : tie.Need-accept-requires
+accept-requires c κs = search admits-accepted
 
 returns-2 : tie.Need-returns-2
-returns-2 c = search handle-accepted
+returns-2 c = search needs
 
 pub handle-spec : {M : Type 1} → statement M
 handle-spec =
@@ -37,6 +34,5 @@ handle-spec =
     refuse-requires
     returns
     enum-known-read-2
-    decide-requires
-    apply-requires
+    accept-requires
     returns-2)

@@ -1,5 +1,5 @@
 -- `recorder::apply` meets its contract. Assumes nothing.
-use Rattle.recorder.specs.RecorderLaws.{changed-nowhere, changed-frame, changed-gone, changed-flag, changed-setting}
+use Rattle.recorder.specs.RecorderLaws.{changed-nowhere, changed-as-frame, changed-gone, changed-flag, changed-setting}
 use borrow.Author.Needs.{needs}
 use Rattle.recorder.proofs.apply.Statement.{statement}
 use Rattle.recorder.proofs.apply.Tie as tie
@@ -20,7 +20,7 @@ handle-requires : tie.Need-handle-requires
 handle-requires c κs = search needs
 
 returns-2 : tie.Need-returns-2
-returns-2 c = search changed-frame
+returns-2 c = search changed-as-frame
 
 enum-told-2 : tie.Need-enum-told-2
 enum-told-2 c = search needs

@@ -21,8 +21,8 @@ loop-holds c = tt
 frame-at-requires : tie.Need-frame-at-requires Inv-loop μ-loop
 frame-at-requires c κs = search needs
 
-apply-requires : tie.Need-apply-requires Inv-loop μ-loop
-apply-requires c κs = search needs
+handle-requires : tie.Need-handle-requires Inv-loop μ-loop
+handle-requires c κs = search needs
 
 is-silent-requires : tie.Need-is-silent-requires Inv-loop μ-loop
 is-silent-requires c κs = search needs
@@ -61,7 +61,7 @@ trial-handle-alone-spec =
     empty-requires
     loop-holds
     frame-at-requires
-    apply-requires
+    handle-requires
     is-silent-requires
     keep-requires
     told-requires

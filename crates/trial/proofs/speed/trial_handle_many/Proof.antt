@@ -18,17 +18,17 @@ loop-holds c = tt
 place-of-requires : tie.Need-place-of-requires Inv-loop μ-loop
 place-of-requires c κs = search needs
 
-mul-apply : tie.Need-mul-apply Inv-loop μ-loop
-mul-apply c = search needs
+mul-handle : tie.Need-mul-handle Inv-loop μ-loop
+mul-handle c = search needs
 
-element-copy-out-apply : tie.Need-element-copy-out-apply Inv-loop μ-loop
-element-copy-out-apply c = search needs
+element-copy-out-handle : tie.Need-element-copy-out-handle Inv-loop μ-loop
+element-copy-out-handle c = search needs
 
 frame-at-requires : tie.Need-frame-at-requires Inv-loop μ-loop
 frame-at-requires c κs = search needs
 
-apply-requires : tie.Need-apply-requires Inv-loop μ-loop
-apply-requires c κs = search needs
+handle-requires : tie.Need-handle-requires Inv-loop μ-loop
+handle-requires c κs = search needs
 
 mul-port : tie.Need-mul-port Inv-loop μ-loop
 mul-port c = search needs
@@ -75,10 +75,10 @@ trial-handle-many-spec =
     made-four-requires
     loop-holds
     place-of-requires
-    mul-apply
-    element-copy-out-apply
+    mul-handle
+    element-copy-out-handle
     frame-at-requires
-    apply-requires
+    handle-requires
     mul-port
     element-set-from-port
     is-silent-requires
