@@ -20,20 +20,22 @@ pub struct Step {
     pub at: usize,
 }
 
+fn answer(out: &mut [u8], at: usize, a: Answer) -> usize {
+    match a {
+        Answer::Refused(r, place) => report::answers::refused_at(out, at, r, place),
+        Answer::Done(send) => report::answers::done(out, at, send),
+    }
+}
+
 // The answer, and the notices that the event raised.
 pub fn answered(out: &mut [u8], at: usize, w: PortWord, e: Event) -> usize {
-    let answer = e.answer;
-    match answer {
-        Answer::Refused(r, place) => report::answers::refused_at(out, at, r, place),
-        Answer::Done(send) => {
-            let behind = report::answers::done(out, at, send);
-            let end = report::answers::raised(out, behind, e.notices);
-            if end == behind {
-                return end;
-            }
-            report::ports::others(out, at, end, w.given, w.number)
-        }
+    let said = e.answer;
+    let behind = answer(out, at, said);
+    let end = report::answers::raised(out, behind, e.notices);
+    if end == behind {
+        return end;
     }
+    report::ports::others(out, at, end, w.given, w.number)
 }
 
 // Handles the frame on a line at port `n`, which is `p`.

@@ -1,4 +1,4 @@
--- What each call at a port does: refused ones change nothing, a write leaves the port's frame on its way, and a frame that a sound
+-- What each call at a port does: refused ones change nothing but a frame's mark, a write leaves the port's frame on its way, and a frame that a sound
 -- port wrote is handled as its message. Assumes nothing.
 use Prim.Native.Nat.{ℕ}
 use mathlib.Core.Path.{_≡_, refl, ap, _∙_}
@@ -18,8 +18,8 @@ use Rattle.port.specs.declared.Written.the-variants as wrote
 use Rattle.port.specs.declared.Answer.the-variants as answer
 use Rattle.port.specs.Parts.{running}
 use Rattle.port.specs.Writing.{frame, written, output}
-use Rattle.port.specs.PortEvents.{refused, completed}
-use Rattle.handling.specs.Handling.{message, twice, once, steps1to4, frameEvent, accepted, given, handled}
+use Rattle.port.specs.PortEvents.{completed}
+use Rattle.handling.specs.Handling.{message, twice, once, steps1to4, frameEvent, accepted, breaks, withBroken, rejected, given, handled}
 use Rattle.port.specs.Sound.{SoundPort}
 use Rattle.exchange.proofs.Core as core
 use Rattle.exchange.proofs.View.{settings, view}
@@ -42,17 +42,17 @@ write-leaves p out n e = write-by p out n (running p) (length out below length (
 -- ---- refused frames
 
 refused-by : (p : Port) (o : List ℕ) (why : Refusal) (place : ℕ) (a b : Bool) (x : Reading) →
-    (if not a then refused refusal.NotRunning p else if b then refused refusal.SeveralNeighbours p else given o x p) .answer ≡ answer.Refused why place →
-    (if not a then refused refusal.NotRunning p else if b then refused refusal.SeveralNeighbours p else given o x p) .port ≡ p
-unfolding given accepted frameEvent
-refused-by p o why place false b x e = refl
-refused-by p o why place true true x e = refl
-refused-by p o why place true false (Refused y i) e = refl
+    (if not a then rejected refusal.NotRunning 0 p else if b then rejected refusal.SeveralNeighbours 0 p else given o x p) .answer ≡ answer.Refused why place →
+    (if not a then rejected refusal.NotRunning 0 p else if b then rejected refusal.SeveralNeighbours 0 p else given o x p) .port ≡ withBroken p (breaks why)
+unfolding given accepted frameEvent rejected
+refused-by p o why place false b x e = let k : refusal.NotRunning ≡ why = cc in ap (λ (y : Refusal). withBroken p (breaks y)) k
+refused-by p o why place true true x e = let k : refusal.SeveralNeighbours ≡ why = cc in ap (λ (y : Refusal). withBroken p (breaks y)) k
+refused-by p o why place true false (Refused y i) e = let k : y ≡ why = cc in ap (λ (y : Refusal). withBroken p (breaks y)) k
 refused-by p o why place true false (Accepted c) e = cc
 
-pub refused-stays : (p : Port) (o : List ℕ) (why : Refusal) (place : ℕ) → handled p o .answer ≡ answer.Refused why place → handled p o .port ≡ p
+pub refused-marks : (p : Port) (o : List ℕ) (why : Refusal) (place : ℕ) → handled p o .answer ≡ answer.Refused why place → handled p o .port ≡ withBroken p (breaks why)
 unfolding handled
-refused-stays p o why place e = refused-by p o why place (running p) (p .several) (readFrame o) e
+refused-marks p o why place e = refused-by p o why place (running p) (p .several) (readFrame o) e
 
 -- ---- frames that are delivered
 
@@ -60,8 +60,8 @@ module _ (p q : Port) where
   runs-given : (o : List ℕ) → running p ≡ true → p .several ≡ false → handled p o ≡ given o (readFrame o) p
   unfolding handled
   runs-given o r n =
-      ap (λ b. if not b then refused refusal.NotRunning p else if p .several then refused refusal.SeveralNeighbours p else given o (readFrame o) p) r
-      ∙ ap (λ b. if b then refused refusal.SeveralNeighbours p else given o (readFrame o) p) n
+      ap (λ b. if not b then rejected refusal.NotRunning 0 p else if p .several then rejected refusal.SeveralNeighbours 0 p else given o (readFrame o) p) r
+      ∙ ap (λ b. if b then rejected refusal.SeveralNeighbours 0 p else given o (readFrame o) p) n
 
   pub delivered-port : running p ≡ true → p .several ≡ false → SoundPort q →
       handled p (frame q) .port ≡ completed p (once (core.message (settings q) (view q)) p)

@@ -15,6 +15,7 @@ use Rattle.recorder.specs.declared.Recorder.{Recorder}
 use Rattle.recorder.specs.Recorder.{portAt, happens, changed, written, output}
 use Rattle.recorder.specs.Calls as recorder
 use Rattle.recorder.specs.Calls.{Operation, eventOf, afterAt, after, replyOf}
+use Rattle.recorder.specs.Rows.{isFrame}
 use Rattle.recorder.specs.Independent.{isEvent}
 use Rattle.recorder.proofs.Independent.{four-after, idle, own-after, other-after}
 use Rattle.recorder.proofs.Demand1.{refused-leaves}
@@ -37,14 +38,15 @@ module _ (r : Recorder) (n : ℕ) (p : PortNumber n) where
   way-same out before = rw (port-is n p) refl
 
   spared : length (r .ports) ≡ 4 → (x : recorder.Call) → spares n r x ≡ true → portAt (after r x) n ≡ portAt r n
-  spared four x = by (x .port is n) (isEvent (x .operation)) (replyOf r x .number is 0) refl refl refl
+  spared four x = by (x .port is n) (isEvent (x .operation)) (isFrame (x .operation)) (replyOf r x .number is 0) refl refl refl refl
     where
-      by : (a b d : Bool) → (x .port is n) ≡ a → isEvent (x .operation) ≡ b → (replyOf r x .number is 0) ≡ d → (not a || not b || not d) ≡ true
-          → portAt (after r x) n ≡ portAt r n
-      by false b d e f g t = other-after r (x .port) n p (eqb-false (x .port) n e) (x .operation)
-      by true false d e f g t = rw (eqb-true (x .port) n e) (own-after r four n (x .operation) ∙ idle n (portAt r n) (x .operation) f)
-      by true true false e f g t = ap (λ (q : Recorder). portAt q n) (refused-leaves r x g)
-      by true true true e f g t = absurd (false≢true t)
+      by : (a b d k : Bool) → (x .port is n) ≡ a → isEvent (x .operation) ≡ b → isFrame (x .operation) ≡ d → (replyOf r x .number is 0) ≡ k
+          → (not a || not b || not (d || k)) ≡ true → portAt (after r x) n ≡ portAt r n
+      by false b d k e f g h t = other-after r (x .port) n p (eqb-false (x .port) n e) (x .operation)
+      by true false d k e f g h t = rw (eqb-true (x .port) n e) (own-after r four n (x .operation) ∙ idle n (portAt r n) (x .operation) f)
+      by true true false false e f g h t = ap (λ (q : Recorder). portAt q n) (refused-leaves r x g h)
+      by true true false true e f g h t = absurd (false≢true t)
+      by true true true k e f g h t = absurd (false≢true t)
 
 -- ---- both recorders
 

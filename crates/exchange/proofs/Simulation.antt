@@ -1,7 +1,7 @@
 -- Two ports follow the exchange of messages, call by call. Assumes nothing.
 use Prim.Native.Nat.{ℕ}
 use mathlib.Core.Path.{_≡_, sym, ap, _∙_, subst}
-use mathlib.Core.Bool.{true, false}
+use mathlib.Core.Bool.{Bool, true, false}
 use mathlib.Core.List.{List, [], _∷_}
 use mathlib.Core.Option.{Option, none, some}
 use Rattle.port.specs.declared.Port.{Port}
@@ -11,11 +11,12 @@ use Rattle.port.specs.Writing as writing
 use Rattle.handling.specs.Handling.{Message, once}
 use Rattle.handling.specs.Handling as handling
 use Rattle.port.specs.Sound.{SoundPort}
-use Rattle.exchange.specs.Rounds.{left, right, write, frame, Call, refused, writes, handles, Ends, afterWrite, onItsWay, delivered, exec, execAll, Accepts, RefusesWrite, Answers, Proper}
+use Rattle.exchange.specs.Rounds.{left, right, write, frame, Call, refused, writes, handles, Ends, afterWrite, onItsWay, delivered, exec, execAll, Accepts, RefusesWrite, RefusesFrame, Answers, Proper}
 use Rattle.exchange.proofs.Core.{Settings, Core, message, recv}
-use Rattle.exchange.proofs.View.{settings, view, Kept, runs-same, view-once, kept-once}
-use Rattle.exchange.proofs.Calls.{write-leaves, refused-stays, delivered-port}
+use Rattle.exchange.proofs.View.{settings, view, Kept, runs-same, view-marked, kept-marked, view-once, kept-once}
+use Rattle.exchange.proofs.Calls.{write-leaves, refused-marks, delivered-port}
 use Rattle.handling.proofs.Soundness.{once-kept, completed-sound}
+use Rattle.handling.proofs.Standing.{rejected-sound}
 use Rattle.exchange.proofs.Pairs.{Pair, given, step, run}
 
 -- a sound port that runs with the settings `s`, while several neighbours are not flagged
@@ -62,6 +63,20 @@ given-next own peer p b (some o) (some m) h v k =
       ap view e ∙ view-once (message (settings q) (view q)) p ∙ (λ i. recv (h .set i) (v i) (g i)),
     )
 
+-- a refused frame leaves all but the mark (02, E1)
+refused-next : (own : Settings) (p : Port) (b : Core) (o : List ℕ) → RefusesFrame p o → Runs own p → view p ≡ b →
+    Runs own (handling.handled p o .port) × (view (handling.handled p o .port) ≡ b)
+unfolding handling.rejected
+refused-next own p b o a h v =
+    let why = a .0 in
+    let k : Bool = handling.breaks why in
+    let q : Port = handling.withBroken p k in
+    let e : handling.handled p o .port ≡ q = refused-marks p o why (a .1) (a .2) in
+    let m : Kept p q = kept-marked p k in
+    let runs : Runs own q =
+    record { sound = rejected-sound why 0 p (h .sound); runs = runs-same p q m ∙ h .runs; single = m .several ∙ h .single; set = m .settings ∙ h .set } in
+    (subst (Runs own) (sym e) runs, ap view e ∙ view-marked p k ∙ v)
+
 -- what a write leaves on its way
 write-link : (own : Settings) (p : Port) (b : Core) (out : List ℕ) (o : Option (List ℕ)) → Runs own p → view p ≡ b → Accepts p out →
     Link own (onItsWay p out o) (some (message own b))
@@ -87,8 +102,12 @@ module _ (s t : Settings) where
   unfolding exec step
   follows (refused (write left out)) c d a h = rw (write-none (c .l) out (c .from-l) a) h
   follows (refused (write right out)) c d a h = rw (write-none (c .r) out (c .from-r) a) h
-  follows (refused (frame left o)) c d a h = rw (refused-stays (c .l) o (a .0) (a .1) (a .2)) h
-  follows (refused (frame right o)) c d a h = rw (refused-stays (c .r) o (a .0) (a .1) (a .2)) h
+  follows (refused (frame left o)) c d a h =
+      let x = refused-next s (c .l) (d .l) o a (h .runs-l) (h .view-l) in
+      record { runs-l = x .0; runs-r = h .runs-r; view-l = x .1; view-r = h .view-r; link-l = h .link-l; link-r = h .link-r }
+  follows (refused (frame right o)) c d a h =
+      let x = refused-next t (c .r) (d .r) o a (h .runs-r) (h .view-r) in
+      record { runs-l = h .runs-l; runs-r = x .0; view-l = h .view-l; view-r = x .1; link-l = h .link-l; link-r = h .link-r }
   follows (writes left out) c d a h =
       record {
         runs-l = h .runs-l;

@@ -1,7 +1,7 @@
--- After five rounds a further round changes nothing of the two ports. Assumes nothing.
+-- After five rounds a further round changes nothing of the two ports but the marks of refused frames. Assumes nothing.
 use Prim.Native.Nat.{_≤_}
 use mathlib.Core.Path.{_≡_, sym, ap, _∙_}
-use mathlib.Core.Bool.{true, _&&_}
+use mathlib.Core.Bool.{true, false, _&&_}
 use mathlib.Core.List.{List}
 use lib.ListN.{length}
 use Rattle.octets.specs.Laws.{and-left, and-right}
@@ -10,6 +10,7 @@ use Rattle.parameters.specs.declared.Feature.the-variants.{Groups, Flow, Applic
 use Rattle.feature.specs.declared.State.{State}
 use Rattle.port.specs.declared.Port.{Port}
 use Rattle.port.specs.Parts.{running}
+use Rattle.recorder.specs.Demand1.{unmarked}
 use Rattle.exchange.specs.Rounds.{Ends, Round, lossless, calls, rounds, execAll, Proper}
 use Rattle.exchange.specs.Demand3.{Begun}
 use Rattle.exchange.proofs.Core.{Settings, Core}
@@ -22,8 +23,8 @@ use Rattle.exchange.proofs.Simulation.{Runs, follows-all}
 use Rattle.exchange.proofs.Started.{like-begun}
 use Rattle.exchange.proofs.Claims.{fit}
 
--- a port that runs is known by its settings and by what frames change
-same-port : (s : Settings) (p q : Port) → Runs s p → Runs s q → view p ≡ view q → p ≡ q
+-- a port that runs is known, but for its mark, by its settings and by what frames change
+same-port : (s : Settings) (p q : Port) → Runs s p → Runs s q → view p ≡ view q → unmarked p ≡ unmarked q
 same-port s p q h k e =
     let a : settings p ≡ settings q = h .set ∙ sym (k .set) in
     λ i. record {
@@ -31,7 +32,7 @@ same-port s p q h k e =
       receive = (second p (h .runs) ∙ sym (second q (k .runs))) i;
       transmit = (third p (h .runs) ∙ sym (third q (k .runs))) i;
       several = (h .single ∙ sym (k .single)) i;
-      control = record { max = a i .max; oper = e i .oper; seq = e i .seq; ack = e i .ack; rcvd = e i .rcvd; seen = e i .seen; duplicate = e i .duplicate };
+      control = record { max = a i .max; oper = e i .oper; seq = e i .seq; ack = e i .ack; rcvd = e i .rcvd; seen = e i .seen; duplicate = e i .duplicate; broken = false };
       groups = stateOf (a i) (e i) Groups;
       flow = stateOf (a i) (e i) Flow;
       applications = stateOf (a i) (e i) Applications;
@@ -51,8 +52,8 @@ same-port s p q h k e =
         record { max = a .of f .max; setting = a .of f .setting; outcome = e .feat f .outcome; syncd = e .feat f .syncd; sequence = e .feat f .sequence }
 
 pub steady : (c : Ends) → Begun c → (rs : List Round) (r : Round) → 5 ≤ length rs → Proper (rounds rs) c → Proper (calls lossless r) (execAll (rounds rs) c) →
-    (execAll (calls lossless r) (execAll (rounds rs) c) .l ≡ execAll (rounds rs) c .l)
-    × (execAll (calls lossless r) (execAll (rounds rs) c) .r ≡ execAll (rounds rs) c .r)
+    (unmarked (execAll (calls lossless r) (execAll (rounds rs) c) .l) ≡ unmarked (execAll (rounds rs) c .l))
+    × (unmarked (execAll (calls lossless r) (execAll (rounds rs) c) .r) ≡ unmarked (execAll (rounds rs) c .r))
 steady c h rs r n p o =
     let s = settings (c .l) in
     let t = settings (c .r) in

@@ -63,7 +63,7 @@ begun =
 
 -- SeqNo 2, RcvdAckNo 1
 numbers : (execAll (rounds (replicate 4 plainRound)) w7 .r .control .seq ≡ 2) × (execAll (rounds (replicate 4 plainRound)) w7 .r .control .rcvd ≡ 1)
-unfolding w7 created desired versions unwilling lent plainRound layout.headAt layout.foundAgain layout.counts layout.noted layout.onward layout.walkFrom layout.walked layout.isDcbx layout.judgedControl layout.readFrame parameters.featureNumber parameters.goodHalves parameters.sum parameters.validGroups parameters.validFlow parameters.sameName parameters.allFrom parameters.newName parameters.validApplications parameters.valid parameters.ones parameters.localValues parameters.validLocal parameters.clash parameters.clearOf parameters.compatible parameters.isOurs parameters.oursOf parameters.ours parameters.fewAndNew parameters.stored parameters.content rules.judged rules.outcome state.freshAt state.subTlv state.acknowledged state.received state.changed state.marked writing.subTlvs writing.frame writing.toWrite writing.asks writing.written writing.output events.unsynced events.sent events.becomes events.started handling.exchanged handling.once handling.steps1to4 handling.markNotice handling.frameEvent handling.accepted handling.given handling.handled ends.other ends.afterWrite ends.delivered ends.exec ends.execAll ends.quiet ends.maybe ends.writeOf ends.handleOf ends.calls ends.rounds same
+unfolding w7 created desired versions unwilling lent plainRound layout.headAt layout.foundAgain layout.counts layout.noted layout.onward layout.walkFrom layout.walked layout.isDcbx layout.judgedControl layout.readFrame parameters.featureNumber parameters.goodHalves parameters.sum parameters.validGroups parameters.validFlow parameters.sameName parameters.allFrom parameters.newName parameters.validApplications parameters.valid parameters.ones parameters.localValues parameters.validLocal parameters.clash parameters.clearOf parameters.compatible parameters.isOurs parameters.oursOf parameters.ours parameters.fewAndNew parameters.stored parameters.content rules.judged rules.outcome state.freshAt state.subTlv state.acknowledged state.received state.changed state.marked writing.subTlvs writing.frame writing.toWrite writing.asks writing.written writing.output events.unsynced events.sent events.becomes events.started handling.exchanged handling.once handling.steps1to4 handling.breaks handling.rejected handling.frameEvent handling.accepted handling.given handling.handled ends.other ends.afterWrite ends.delivered ends.exec ends.execAll ends.quiet ends.maybe ends.writeOf ends.handleOf ends.calls ends.rounds same
 numbers = (refl, refl)
 
 pub five-are-needed : (c : Ends) × Begun c × (rs : List Round) × (length rs ≡ 4) × Proper (rounds rs) c

@@ -11,7 +11,7 @@ use Rattle.port.specs.declared.Port.{Port}
 use Rattle.port.specs.Parts.{featureOf, withControl, running}
 use Rattle.port.specs.PortEvents.{withSeq, unsynced, step5, completed}
 use Rattle.port.specs.PortEvents as events
-use Rattle.handling.specs.Handling.{Message, met, exchanged, once}
+use Rattle.handling.specs.Handling.{Message, met, exchanged, once, withBroken}
 use Rattle.exchange.specs.Rounds.{sideOf}
 use Rattle.exchange.proofs.Core as core
 use Rattle.exchange.proofs.Core.{Settings, Core, machineOf}
@@ -108,6 +108,29 @@ pub view-sent : (p : Port) →
     }
 unfolding core.sent
 view-sent p = ap view (sent-by p) ∙ view-counted (core.pending (settings p) (view p .feat) && p .control .rcvd is p .control .seq) p
+
+-- the mark of a broken control is no part of what is seen
+pub view-marked : (p : Port) (b : Bool) → view (withBroken p b) ≡ view p
+view-marked p b =
+    λ i. record {
+      oper = p .control .oper;
+      seq = p .control .seq;
+      ack = p .control .ack;
+      rcvd = p .control .rcvd;
+      seen = p .control .seen;
+      duplicate = p .control .duplicate;
+      feat = λ f. machineOf (of-control p (withBroken p b .control) f i);
+    }
+
+pub kept-marked : (p : Port) (b : Bool) → Kept p (withBroken p b)
+kept-marked p b =
+    record {
+      settings = λ i. record { max = p .control .max; of = λ f. sideOfState (of-control p (withBroken p b .control) f i) };
+      admin = refl;
+      receive = refl;
+      transmit = refl;
+      several = refl;
+    }
 
 pub kept-sent : (p q : Port) → Kept p q → Kept p (events.sent q)
 kept-sent p q h =

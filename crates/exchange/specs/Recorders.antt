@@ -12,6 +12,7 @@ use Rattle.recorder.specs.declared.Recorder.{Recorder}
 use Rattle.recorder.specs.Recorder.{portAt, written, output}
 use Rattle.recorder.specs.Calls as recorder
 use Rattle.recorder.specs.Calls.{Operation, after, replyOf}
+use Rattle.recorder.specs.Rows.{isFrame}
 use Rattle.recorder.specs.Independent.{isEvent}
 use Rattle.exchange.specs.Rounds.{End, left, right, Ends, Call, refused, write, frame, writes, handles, afterWrite, Round, Lossy, rounds, lossyRounds, Answers}
 use Rattle.exchange.specs.Demand3.{BothAgreed, BothTruthful, SettledAgreed}
@@ -83,9 +84,10 @@ execAll k (x ∷ xs) c = execAll k xs (exec k x c)
 
 -- ---- "Each gets the state the last call at its end left; nothing else changes that state meanwhile."
 
--- a call of recorder r at another port than n; a request to write or a taking; or a call that is refused
+-- a call of recorder r at another port than n; a request to write or a taking; or a call that is refused and is no frame. Refused frames are
+-- calls of the exchange: since E1 they change the port's mark.
 abbrev pub spares : ℕ → Recorder → recorder.Call → Bool
-spares n r x = not (x .port is n) || not (isEvent (x .operation)) || not (replyOf r x .number is 0)
+spares n r x = not (x .port is n) || not (isEvent (x .operation)) || not (isFrame (x .operation) || replyOf r x .number is 0)
 
 -- each call of the exchange answers as its name says, in the state that it meets; the others spare the two ports
 abbrev pub Proper : Cable → List Happening → Recorders → Type 0

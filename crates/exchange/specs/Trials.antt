@@ -335,7 +335,7 @@ unfoldable pub outstanding : Recorder
 outstanding =
     let p : Port = rounds w2Recorder w2Recorder 3 .l in
     record {
-      ports = set (w2Recorder .ports) 0 (withControl p (record { max = 0; oper = 0; seq = 4294967295; ack = 1; rcvd = 4294967294; seen = true; duplicate = false }));
+      ports = set (w2Recorder .ports) 0 (withControl p (record { max = 0; oper = 0; seq = 4294967295; ack = 1; rcvd = 4294967294; seen = true; duplicate = false; broken = false }));
       log = w2Recorder .log;
     }
 

@@ -7,7 +7,9 @@ use mathlib.Core.List.{List}
 use lib.Dec.{lit<}
 use Rattle.octets.specs.Words.{if_then_else_, _below_, _is_}
 use Rattle.octets.specs.Laws.{and-left, and-right}
+use Rattle.tlv.specs.declared.Refusal.{Refusal}
 use Rattle.tlv.specs.declared.Refusal.the-variants.{NotRunning, SeveralNeighbours, InvalidSetting, UnknownFeature}
+use Rattle.tlv.specs.Refusals.{refusalNumber}
 use Rattle.tlv.specs.declared.Contents.{Contents}
 use Rattle.tlv.specs.declared.Reading.{Reading}
 use Rattle.tlv.specs.declared.Reading.the-variants.{Refused, Accepted}
@@ -31,7 +33,7 @@ use Rattle.port.specs.declared.Raised.the-variants as raised
 use Rattle.port.specs.declared.Versions.{Versions}
 use Rattle.port.specs.Parts.{featureOf, maxOf, withControl, withFeatures, flagOf, withFlag, running}
 use Rattle.port.specs.PortEvents.{sent, freshControl, freshParts, freshPort, event, unchanged, refused, started, createdPort, settingsValid, restarts, flagNotice, flagSet, flagged, peerGone, step5, completed, withFeature, withSetting, settingChanged, setTo, changedFeature, changedSetting, switchedOff, blankParameters, blankState, blankPort}
-use Rattle.handling.specs.Handling.{Message, message, twice, met, exchanged, once, steps1to4, frameEvent, accepted, given, handled}
+use Rattle.handling.specs.Handling.{Message, message, twice, met, exchanged, once, steps1to4, frameEvent, accepted, breaks, withBroken, rejected, given, handled}
 use Rattle.port.specs.Sound.{SoundSetting, SoundState, SoundPort}
 use Rattle.handling.proofs.Tests.{beq-not, each-true}
 use Rattle.handling.proofs.Soundness.{Octets, sound-stored, adopts-none, judged-sound, next-small, port-sound, sent-sound, completed-sound, steps-sound}
@@ -50,7 +52,24 @@ fresh-stands p h = record { sound = fresh-kept p h; stopped = λ e. fresh-again 
 completed-runs : (before after : Port) → running (completed before after) ≡ running after
 completed-runs before after = runs-alike (step5 before after) (completed before after) (sent-alike (step5 before after))
 
+-- the fresh state of a stopped port
+abbrev still : Port → Port
+still p = withFeatures (freshParts p) (λ f. stopped (featureOf (freshParts p) f))
+
+fresh-still : (p : Port) (b : Bool) → running p ≡ b → b ≡ false → freshPort p ≡ still p
+unfolding freshPort
+fresh-still p true r e = absurd (false≢true (sym e))
+fresh-still p false r e = rw r refl
+
+-- 02, E1: "a fresh state, clears it"
+pub stopped-off : (p : Port) → freshPort p ≡ p → running p ≡ false → p .control .broken ≡ false
+stopped-off p e r = ap (λ (q : Port). q .control .broken) (sym e ∙ fresh-still p _ refl r)
+
 -- ---- frames
+
+rejected-runs : (why : Refusal) (place : ℕ) (p : Port) → running (rejected why place p .port) ≡ running p
+unfolding rejected
+rejected-runs why place p = refl
 
 module _ (p : Port) where
   once-runs : (m : Message) → running (once m p) ≡ running p
@@ -69,15 +88,27 @@ module _ (p : Port) where
       by true = refl
       by false = once-runs (message o c)
 
+-- a frame that is refused: a stopped port has no mark, and gets none
+pub rejected-sound : (why : Refusal) (place : ℕ) (p : Port) → SoundPort p → SoundPort (rejected why place p .port)
+unfolding rejected
+rejected-sound why place p h =
+    let c = h .control in
+    port-sound (withBroken p (breaks why)) (record { max = c .max; oper = c .oper; seq = c .seq; ack = c .ack; rcvd = c .rcvd })
+    (h .features Groups) (h .features Flow) (h .features Applications)
+
+stopped-unmarked : (p : Port) → Standing p → running p ≡ false → rejected NotRunning 0 p .port ≡ p
+unfolding rejected breaks refusalNumber
+stopped-unmarked p h r = ap (λ (b : Bool). withBroken p b) (sym (stopped-off p (h .stopped r) r))
+
 pub handled-stands : (p : Port) (o : List ℕ) → Octets o → Standing p → Standing (handled p o .port)
 unfolding handled given accepted frameEvent
 handled-stands p o k h = by (running p) (p .several) (readFrame o) refl
   where
     by : (a b : Bool) (x : Reading) → running p ≡ a
-        → Standing ((if not a then refused NotRunning p else if b then refused SeveralNeighbours p else given o x p) .port)
-    by false b x r = h
-    by true true x r = h
-    by true false (Refused why place) r = h
+        → Standing ((if not a then rejected NotRunning 0 p else if b then rejected SeveralNeighbours 0 p else given o x p) .port)
+    by false b x r = rw (stopped-unmarked p h r) h
+    by true true x r = running-stands _ (rejected-sound SeveralNeighbours 0 p (h .sound)) (rejected-runs SeveralNeighbours 0 p ∙ r)
+    by true false (Refused why place) r = running-stands _ (rejected-sound why place p (h .sound)) (rejected-runs why place p ∙ r)
     by true false (Accepted c) r =
         running-stands (completed p (steps1to4 o c p)) (completed-sound p (steps1to4 o c p) (steps-sound o c p k (h .sound)))
         (completed-runs p (steps1to4 o c p) ∙ steps-run p o c ∙ r)
@@ -98,15 +129,6 @@ module _ (p : Port) (on : Bool) where
   stays Receive e = beq-not (running p) (running (withFlag p Receive on)) e
   stays Transmit e = beq-not (running p) (running (withFlag p Transmit on)) e
   stays Several e = refl
-
--- the fresh state of a stopped port
-abbrev still : Port → Port
-still p = withFeatures (freshParts p) (λ f. stopped (featureOf (freshParts p) f))
-
-fresh-still : (p : Port) (b : Bool) → running p ≡ b → b ≡ false → freshPort p ≡ still p
-unfolding freshPort
-fresh-still p true r e = absurd (false≢true (sym e))
-fresh-still p false r e = rw r refl
 
 still-flag : (p : Port) (flag : Flag) (on : Bool) → still (withFlag p flag on) ≡ withFlag (still p) flag on
 still-flag p Admin on = refl

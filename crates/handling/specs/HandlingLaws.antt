@@ -16,6 +16,7 @@ use Rattle.tlv.specs.declared.Refusal.{Refusal}
 use Rattle.tlv.specs.declared.Refusal.the-variants.{NotRunning, SeveralNeighbours}
 use Rattle.tlv.specs.declared.Reading.{Reading}
 use Rattle.tlv.specs.declared.Reading.the-variants.{Refused, Accepted}
+use Rattle.tlv.specs.Refusals.{refusalNumber}
 use Rattle.tlv.specs.Promises.{Inside, ReadPromise}
 use Rattle.tlv.specs.Layout.{readFrame, valueOf}
 use Rattle.parameters.specs.declared.Feature.{Feature}
@@ -39,13 +40,15 @@ use Rattle.port.specs.declared.Raised.the-variants as raised
 use Rattle.port.specs.declared.Notices.{Notices}
 use Rattle.port.specs.declared.Event.{Event}
 use Rattle.port.specs.declared.Answer.the-variants.{Done}
-use Rattle.notices.specs.declared.Kind.the-variants.{DuplicateControl}
+use Rattle.port.specs.declared.Answer.the-variants as answer
+use Rattle.notices.specs.declared.Kind.{Kind}
+use Rattle.notices.specs.declared.Kind.the-variants.{ControlError, DuplicateControl}
 use Rattle.port.specs.Parts.{featureOf, three, withControl, withFeatures, some, running}
 use Rattle.port.specs.Writing.{controlValue, asks}
 use Rattle.port.specs.EventLaws.{counted, sent-counted}
-use Rattle.port.specs.PortEvents.{unsynced, completed, becomes, raises, refusedAt, refused}
+use Rattle.port.specs.PortEvents.{unsynced, completed, becomes, raises}
 use Rattle.port.specs.WritingLaws.{asks-parts}
-use Rattle.handling.specs.Handling.{Message, hasOf, message, seenTwice, twice, met, numbered, exchanged, once, steps1to4, markNotice, frameEvent, accepted, given, handled}
+use Rattle.handling.specs.Handling.{Message, hasOf, message, seenTwice, twice, met, numbered, exchanged, once, steps1to4, newlyMarked, markNotice, frameEvent, accepted, breaks, withBroken, alone, rejected, given, handled}
 
 -- ---- which frames are taken
 
@@ -87,7 +90,7 @@ pub handled-admitted : (p : Port) (o : List ℕ) → handled p o ≡ given o (ad
 unfolding handled given admitted
 handled-admitted p o = by (running p) (p .several)
   where
-    by : (a b : Bool) → (if not a then refused NotRunning p else if b then refused SeveralNeighbours p else given o (readFrame o) p)
+    by : (a b : Bool) → (if not a then rejected NotRunning 0 p else if b then rejected SeveralNeighbours 0 p else given o (readFrame o) p)
         ≡ given o (if not a then Refused NotRunning 0 else if b then Refused SeveralNeighbours 0 else readFrame o) p
     by false b = refl
     by true true = refl
@@ -132,7 +135,7 @@ module _ (o : List ℕ) (c : Contents) (k : Control) where
     pub hear-exchange : {m n : ℕ} → a ≡ low → m ≡ number4 v 2 → n ≡ number4 v 6
         → record {
           course = Exchange;
-          control = record { max = k .max; oper = low; seq = k .seq; ack = m; rcvd = n; seen = true; duplicate = false };
+          control = record { max = k .max; oper = low; seq = k .seq; ack = m; rcvd = n; seen = true; duplicate = false; broken = false };
         } ≡ heardOf o c k
     unfolding heardOf
     hear-exchange q em en = simp (em, en, ev, le-ltb 1 (c .control .count) t, ← heard-low, ← heard-oper, eq-eqb a low q)
@@ -161,18 +164,31 @@ module _ (x : State) (t : Turn) where
 
 -- ---- the notice of the port
 
-abbrev pub duplicateNotice : Bool → Bool → Raised
-duplicateNotice before after = if not before && after then raised.Notice DuplicateControl else raised.Nothing
+module _ (k : Kind) (b a : Bool) where
+  pub marked-before : b ≡ true → raised.Nothing ≡ newlyMarked k b a
+  marked-before t = rw t refl
 
-module _ (b a : Bool) where
-  pub duplicate-before : b ≡ true → raised.Nothing ≡ duplicateNotice b a
-  duplicate-before t = rw t refl
+  pub marked-now : b ≡ false → a ≡ true → raised.Notice k ≡ newlyMarked k b a
+  marked-now t u = rw (t, u) refl
 
-  pub duplicate-new : b ≡ false → a ≡ true → raised.Notice DuplicateControl ≡ duplicateNotice b a
-  duplicate-new t u = rw (t, u) refl
+  pub marked-not : b ≡ false → a ≡ false → raised.Nothing ≡ newlyMarked k b a
+  marked-not t u = rw (t, u) refl
 
-  pub duplicate-none : b ≡ false → a ≡ false → raised.Nothing ≡ duplicateNotice b a
-  duplicate-none t u = rw (t, u) refl
+-- ---- a frame that is refused
+
+module _ (why : Refusal) {n : ℕ} (e : n ≡ refusalNumber why) where
+  pub breaks-length : n ≡ 7 → true ≡ breaks why
+  unfolding breaks
+  breaks-length t = simp (← e, t)
+
+  pub breaks-version : (n ≡ 7 → ⊥) → (n is 8) ≡ breaks why
+  unfolding breaks
+  breaks-version t = simp (← e, ne-eqb n 7 t)
+
+pub reject-is : (why : Refusal) (place : ℕ) (p : Port) {b : Bool} {x : Raised} → b ≡ breaks why → x ≡ newlyMarked ControlError (p .control .broken) b
+    → record { answer = answer.Refused why place; port = withBroken p b; notices = alone x } ≡ rejected why place p
+unfolding rejected
+reject-is why place p eb ex = rw (ex, eb) refl
 
 -- ---- the port
 
@@ -253,10 +269,10 @@ module _ (o : List ℕ) (c : Contents) (p : Port) where
         → {k : Control} → k ≡ counted (((x || y) || z) && h .control .rcvd is h .control .seq) (h .control)
         → {s : Bool} → s ≡ same (controlValue (p .control)) (controlValue k)
         → {b d e : Bool} → b ≡ changedBy (p .groups) g → d ≡ changedBy (p .flow) w → e ≡ changedBy (p .applications) a
-        → {n : Notices} → n .port ≡ duplicateNotice (p .control .duplicate) (k .duplicate) → n .groups ≡ becomes (p .groups .outcome .reason) (g .decision .reason)
+        → {n : Notices} → n .port ≡ newlyMarked DuplicateControl (p .control .duplicate) (k .duplicate) → n .groups ≡ becomes (p .groups .outcome .reason) (g .decision .reason)
         → n .flow ≡ becomes (p .flow .outcome .reason) (w .decision .reason) → n .applications ≡ becomes (p .applications .outcome .reason) (a .decision .reason)
         → record { course = h .course; wish = not s || ((b || d) || e); control = k; groups = g; flow = w; applications = a; notices = n } ≡ changeOf o c p
-    unfolding changeOf markNotice
+    unfolding changeOf
     decide-is {x} {y} {z} ex ey ez {k} ek {s} es {b} {d} {e} eb ed ee {n} np ng nw na =
         let ux : x ≡ unsynced (q .groups) = ex ∙ ap (waitsBy (p .groups)) eg ∙ sym (unsynced-by (p .groups) (q .groups) (kept Groups)) in
         let uy : y ≡ unsynced (q .flow) = ey ∙ ap (waitsBy (p .flow)) ew ∙ sym (unsynced-by (p .flow) (q .flow) (kept Flow)) in
@@ -272,7 +288,7 @@ module _ (o : List ℕ) (c : Contents) (p : Port) where
         (es ∙ ap (λ (k : Control). same (controlValue (p .control)) (controlValue k)) uk) cg cw ca in
         let notices : n ≡ raises (markNotice p q) p q =
         λ i. record {
-          port = (np ∙ ap (λ (k : Control). duplicateNotice (p .control .duplicate) (k .duplicate)) uk) i;
+          port = (np ∙ ap (λ (k : Control). newlyMarked DuplicateControl (p .control .duplicate) (k .duplicate)) uk) i;
           groups = (ng ∙ ap (λ (t : Turn). becomes (p .groups .outcome .reason) (t .decision .reason)) eg) i;
           flow = (nw ∙ ap (λ (t : Turn). becomes (p .flow .outcome .reason) (t .decision .reason)) ew) i;
           applications = (na ∙ ap (λ (t : Turn). becomes (p .applications .outcome .reason) (t .decision .reason)) ea) i;
@@ -314,7 +330,7 @@ module _ (p : Port) (o : List ℕ) {r : Reading} (er : Admits p o r) where
   admitted-event : handled p o ≡ given o r p
   admitted-event = handled-admitted p o ∙ ap (λ (r : Reading). given o r p) (sym (er .answers))
 
-  pub handle-refused : {why : Refusal} {place : ℕ} {e : Event} → r ≡ Refused why place → e ≡ refusedAt why place p → e ≡ handled p o
+  pub handle-refused : {why : Refusal} {place : ℕ} {e : Event} → r ≡ Refused why place → e ≡ rejected why place p → e ≡ handled p o
   unfolding given
   handle-refused e ee = rw (admitted-event, e) ee
 

@@ -10,8 +10,8 @@ ghost use Rattle.tlv.specs.Promises.{Inside};
 ghost use Rattle.feature.specs.TurnLaws.{changedBy, peerParametersAfter};
 ghost use Rattle.port.specs.Parts.{running};
 ghost use Rattle.port.specs.PortEvents.{becomes, completed};
-ghost use Rattle.handling.specs.Handling.{handled, steps1to4};
-ghost use Rattle.handling.specs.HandlingLaws.{Admits, afterIn, changeOf, duplicateNotice, heardOf, waitsBy};
+ghost use Rattle.handling.specs.Handling.{newlyMarked, breaks, rejected, handled, steps1to4};
+ghost use Rattle.handling.specs.HandlingLaws.{Admits, afterIn, changeOf, heardOf, waitsBy};
 use feature::State;
 use feature::steps::Course;
 use feature::steps::Turn;
@@ -76,6 +76,7 @@ fn hear(s: &[u8], c: Contents, k: Control) -> Heard
     let found = c.control;
     let mut next = k;
     next.seen = true;
+    next.broken = false;
     if 1 < found.count {
         next.duplicate = true;
         return Heard {
@@ -136,15 +137,15 @@ fn changes(x: State, t: Turn) -> bool
     o.error != d.error
 }
 
-// The notice for a duplicate control that was not marked before.
-fn duplicate_notice(before: bool, after: bool) -> Raised
-    ensures { λ r. ⌜ r ≡ duplicateNotice before after ⌝ }
+// The notice of a mark that was off before.
+fn newly_marked(kind: Kind, before: bool, after: bool) -> Raised
+    ensures { λ r. ⌜ r ≡ newlyMarked kind before after ⌝ }
 {
     if before {
         return Raised::Nothing;
     }
     if after {
-        return Raised::Notice(Kind::DuplicateControl);
+        return Raised::Notice(kind);
     }
     Raised::Nothing
 }
@@ -182,7 +183,7 @@ fn decide(p: Port, s: &[u8], c: Contents) -> Change
     let control = port::events::count(h.control, waiting);
     let same = port::writing::same_control(old, control);
     let changed = changes(p.groups, g) | changes(p.flow, w) | changes(p.applications, a);
-    let x = duplicate_notice(old.duplicate, control.duplicate);
+    let x = newly_marked(Kind::DuplicateControl, old.duplicate, control.duplicate);
     let y = notice(p.groups, g);
     let z = notice(p.flow, w);
     let v = notice(p.applications, a);
@@ -259,14 +260,47 @@ pub fn accept(p: Port, s: &[u8], c: Contents) -> Event
     }
 }
 
-// Handles a frame that arrived (01, Handling a frame). A refused frame changes nothing; 3 to 8 come with the reader's place.
+// Whether a refusal says that the frame's control is broken.
+fn breaks(why: Refusal) -> bool
+    ensures { λ r. ⌜ r ≡ breaks why ⌝ }
+{
+    let n = tlv::refusal_number(why);
+    if n == 7 {
+        return true;
+    }
+    n == 8
+}
+
+// A frame that is refused changes nothing but the mark of a broken control and its notice (02, E1); 3 to 8 come with the reader's
+// place.
+pub fn reject(why: Refusal, place: usize, p: Port) -> Event
+    ensures { λ r. ⌜ r ≡ rejected why place p ⌝ }
+{
+    let k = p.control;
+    let broken = breaks(why);
+    let x = newly_marked(Kind::ControlError, k.broken, broken);
+    let mut next = p;
+    next.control.broken = broken;
+    Event {
+        answer: Answer::Refused(why, place),
+        port: next,
+        notices: Notices {
+            port: x,
+            groups: Raised::Nothing,
+            flow: Raised::Nothing,
+            applications: Raised::Nothing,
+        },
+    }
+}
+
+// Handles a frame that arrived (01, Handling a frame).
 pub fn handle(p: Port, s: &[u8]) -> Event
     ensures { λ r. ⌜ r ≡ handled p (now (s .entry)) ⌝ }
 {
     let read = admit(p, s);
     match read {
         Reading::Refused(why, place) => {
-            return port::events::refuse(why, place, p);
+            return reject(why, place, p);
         }
         Reading::Accepted(contents) => {
             return accept(p, s, contents);

@@ -35,7 +35,7 @@ use Rattle.port.specs.Writing.{asks}
 -- ---- The send rule and fresh states
 
 abbrev pub withSeq : Control → ℕ → Control
-withSeq c n = record { max = c .max; oper = c .oper; seq = n; ack = c .ack; rcvd = c .rcvd; seen = c .seen; duplicate = c .duplicate }
+withSeq c n = record { max = c .max; oper = c .oper; seq = n; ack = c .ack; rcvd = c .rcvd; seen = c .seen; duplicate = c .duplicate; broken = c .broken }
 
 -- an advertised feature has Syncd false
 unfoldable pub unsynced : State → Bool
@@ -47,9 +47,9 @@ sent p =
     if some (λ f. unsynced (featureOf p f)) && p .control .rcvd is p .control .seq then withControl p (withSeq (p .control) (next (p .control .seq)))
     else p
 
--- "control Oper = Max, SeqNo = AckNo = RcvdAckNo = 0, no peer seen, no duplicate control marked"
+-- "control Oper = Max, SeqNo = AckNo = RcvdAckNo = 0, no peer seen, no duplicate control marked"; 02, E1: "or a fresh state, clears" its mark
 abbrev pub freshControl : ℕ → Control
-freshControl max = record { max = max; oper = max; seq = 0; ack = 0; rcvd = 0; seen = false; duplicate = false }
+freshControl max = record { max = max; oper = max; seq = 0; ack = 0; rcvd = 0; seen = false; duplicate = false; broken = false }
 
 -- the control and the three features
 abbrev pub freshParts : Port → Port
@@ -104,7 +104,7 @@ inOrder port n =
 
 -- ---- Events
 
--- "A refusal returns its number alone and changes nothing". 02, E2: "refusals 3 to 8 .. carry, beside the number, a place"; the place beside
+-- "A refusal returns its number alone and changes nothing": of a frame see handling/specs (02, E1). 02, E2: "refusals 3 to 8 .. carry, beside the number, a place"; the place beside
 -- every other is 0.
 abbrev pub refusedAt : Refusal → ℕ → Port → Event
 refusedAt why place p = record { answer = Refused why place; port = p; notices = silent }

@@ -90,6 +90,7 @@ pub fn fresh_control(max: u8) -> Control
         rcvd: 0,
         seen: false,
         duplicate: false,
+        broken: false,
     }
 }
 

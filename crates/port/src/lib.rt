@@ -15,7 +15,8 @@ pub enum Flag {
     Several,
 }
 
-// The control state; `rcvd` is RcvdAckNo, `seen` says that a peer was seen, `duplicate` that duplicate control is marked.
+// The control state; `rcvd` is RcvdAckNo, `seen` says that a peer was seen, `duplicate` that duplicate control is marked, `broken`
+// that the last frame had a broken control (02, E1).
 pub struct Control {
     pub max: u8,
     pub oper: u8,
@@ -24,6 +25,7 @@ pub struct Control {
     pub rcvd: u32,
     pub seen: bool,
     pub duplicate: bool,
+    pub broken: bool,
 }
 
 pub struct Port {

@@ -1,7 +1,8 @@
 pub mod FrameRows
 pub mod Refusals
-pub mod Demand1
 pub mod Independent
+pub mod Marks
+pub mod Demand1
 pub mod Logged
 pub mod News
 pub mod Reachable

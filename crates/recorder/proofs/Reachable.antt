@@ -15,7 +15,7 @@ use Rattle.port.specs.declared.Port.{Port}
 use Rattle.port.specs.PortEvents.{refused, createdPort, settingsValid, made}
 use Rattle.port.specs.PortEvents as events
 use Rattle.handling.specs.Handling as handling
-use Rattle.handling.proofs.Standing.{Standing, handled-stands, flagged-stands, gone-stands, setting-stands, created-stands, blank-stands}
+use Rattle.handling.proofs.Standing.{Standing, stopped-off, handled-stands, flagged-stands, gone-stands, setting-stands, created-stands, blank-stands}
 use Rattle.recorder.specs.declared.Recorder.{Recorder}
 use Rattle.recorder.specs.Recorder.{placeOf, portAt, blank, happens, changed, created}
 use Rattle.recorder.specs.Calls.{Operation, create, frame, gone, flag, setting, write, take, Call, eventOf, after, afterAll}
@@ -96,6 +96,7 @@ calls-sound xs k =
       four = four-all xs blank ∙ blank-four;
       ports = λ n. stands xs k n .sound;
       stopped = λ n. stands xs k n .stopped;
+      mark = λ n e. stopped-off (portAt (afterAll blank xs) n) (stands xs k n .stopped e) e;
       log = log-sound xs;
     }
 

@@ -1,9 +1,10 @@
--- One call at a recorder: its answer is what the table gives, and a refused call changes nothing. Assumes nothing.
+-- One call at a recorder: its answer is what the table gives, and a refused call changes nothing but a frame's mark and notice. Assumes nothing.
 use Prim.Native.Nat.{ℕ, zero, suc}
-use mathlib.Core.Path.{_≡_, _∙_, refl, ap}
-use mathlib.Core.Bool.{Bool, true, false, not, _&&_, _||_, Bool·beq}
+use mathlib.Core.Path.{_≡_, _∙_, refl, sym, ap}
+use mathlib.Core.Bool.{Bool, true, false, not, _&&_, _||_, Bool·beq, false≢true}
 use mathlib.Core.List.{List, [], _∷_, _++_}
 use lib.ListN.{length, drop, getD, set}
+use borrow.Author.Tests.{eqb-false}
 use Rattle.octets.specs.Words.{if_then_else_, _below_, _is_}
 use Rattle.octets.specs.Octets.{same}
 use Rattle.octets.specs.Laws.{same-refl}
@@ -11,13 +12,14 @@ use Rattle.tlv.specs.declared.Refusal.{Refusal}
 use Rattle.tlv.specs.declared.Refusal.the-variants.{NotRunning, SeveralNeighbours, NotDcbx, WrongLength, PastEnd, NoControl, ControlLength, ControlVersion, InvalidSetting, ShortOutput, UnknownFeature, NoNotice, NoPort}
 use Rattle.tlv.specs.declared.Reading.{Reading}
 use Rattle.tlv.specs.declared.Reading.the-variants as read
-use Rattle.tlv.specs.Refusals.{refusalNumber, refusalAt}
+use Rattle.tlv.specs.Refusals.{Reply, refusalNumber, refusalAt}
 use Rattle.tlv.specs.Layout.{readFrame}
 use Rattle.parameters.specs.declared.Feature.{Feature}
 use Rattle.parameters.specs.declared.Feature.the-variants.{Groups, Flow, Applications}
 use Rattle.parameters.specs.Parameters.{validLocal}
 use Rattle.feature.specs.declared.Switches.{Switches}
 use Rattle.feature.specs.State.{settingOf, sameSetting}
+use Rattle.notices.specs.declared.Kind.the-variants.{ControlError}
 use Rattle.notices.specs.declared.Log.{Log}
 use Rattle.notices.specs.Notices.{isPort, countOf, oldestOf, loggedAll, withoutOldest}
 use Rattle.port.specs.declared.Event.{Event}
@@ -31,18 +33,18 @@ use Rattle.port.specs.declared.Written.the-variants as wrote
 use Rattle.port.specs.Parts.{featureOf, flagOf, running}
 use Rattle.port.specs.Replies.{eventReply, writtenReply}
 use Rattle.port.specs.Writing as writing
-use Rattle.port.specs.PortEvents.{blankPort, listed, inOrder, silent, refusedAt, refused, unchanged, event, createdPort, settingsValid, made, flagNotice, flagSet, freshPort, settingChanged, setTo, changedFeature}
+use Rattle.port.specs.PortEvents.{blankPort, listed, inOrder, silent, refused, unchanged, event, createdPort, settingsValid, made, flagNotice, flagSet, freshPort, settingChanged, setTo, changedFeature}
 use Rattle.port.specs.PortEvents as events
-use Rattle.handling.specs.Handling.{frameEvent, accepted, given}
+use Rattle.handling.specs.Handling.{newlyMarked, frameEvent, accepted, breaks, withBroken, alone, rejected, given}
 use Rattle.handling.specs.Handling as handling
 use Rattle.recorder.specs.declared.Recorder.{Recorder}
 use Rattle.recorder.specs.declared.Taken.{Taken}
 use Rattle.recorder.specs.declared.Took.the-variants as took
 use Rattle.recorder.specs.Recorder.{placeOf, portAt, happens, changed, created, stored, written, output, taken}
 use Rattle.recorder.specs.Calls.{Operation, create, frame, gone, flag, setting, write, take, Call, eventOf, raisedAt, afterAt, lentTo, lentAt, tookReply, replyAt}
-use Rattle.recorder.specs.Rows.{invalid}
+use Rattle.recorder.specs.Rows.{isFrame, invalid}
 use Rattle.recorder.specs.Table.{applies, order, firstIn, firstAt, placeBeside}
-use Rattle.recorder.specs.Demand1.{asked, valuesAt, reply, Answers}
+use Rattle.recorder.specs.Demand1.{unmarked, asked, valuesAt, reply, isBroken, newsOf, leftBy, Answers}
 use Rattle.recorder.proofs.FrameRows.{readNumber, readPlace, reading}
 
 -- ---- a refusal's number is none of the done's
@@ -63,68 +65,102 @@ reply-refused UnknownFeature place values = refl
 reply-refused NoNotice place values = refl
 reply-refused NoPort place values = refl
 
--- ---- the answer by the table, and a refused call leaves the port and raises nothing
+-- ---- the answer by the table, and what a refused call leaves of the port and raises
+
+and-no : (b : Bool) → (b && false) ≡ false
+and-no true = refl
+and-no false = refl
+
+here-no : (b : Bool) → b ≡ false → (b && true) ≡ false
+here-no b e = rw e refl
+
+-- what a refusal with number k leaves of port p, where the number names it
+abbrev portLeft : Bool → ℕ → Operation → Port → Port
+portLeft here k x p = if isFrame x && here then withBroken p (isBroken k) else p
+
+abbrev noticesLeft : ℕ → Port → Notices
+noticesLeft k p = if isBroken k then alone (newlyMarked ControlError (p .control .broken) true) else silent
 
 -- the event of an operation x over the tests of its definition: what it answers, by a number of the table, the place and the values
--- beside it; and that it leaves the port and raises nothing where that number is not 0
-record Told (x : Operation) (p : Port) (e : Event) (n : ℕ) (values : List ℕ) : Type 0 where
+-- beside it; and what it leaves of the port and raises where that number is not 0
+record Told (here : Bool) (x : Operation) (p : Port) (e : Event) (n : ℕ) (values : List ℕ) : Type 0 where
   answer : eventReply (e .answer) ≡ reply n (placeBeside n x) values
-  port : (n ≡ 0 → ⊥) → e .port ≡ p
-  notices : (n ≡ 0 → ⊥) → e .notices ≡ silent
+  port : (n ≡ 0 → ⊥) → e .port ≡ portLeft here n x p
+  notices : (n ≡ 0 → ⊥) → e .notices ≡ noticesLeft n p
+  whole : isFrame x ≡ false → isBroken n ≡ false
 
 -- of an event that asks where the octets to be written differ
-abbrev Asks : Operation → Port → Event → ℕ → Type 0
-Asks op p e n = Told op p e n (asked p (e .port))
+abbrev Asks : Bool → Operation → Port → Event → ℕ → Type 0
+Asks here op p e n = Told here op p e n (asked p (e .port))
 
 module _ (op : Operation) (p : Port) where
-  told-place : (why : Refusal) (place : ℕ) {values : List ℕ} → place ≡ placeBeside (refusalNumber why) op
-      → Told op p (refusedAt why place p) (refusalNumber why) values
-  told-place why place {values} e =
-      record { answer = reply-refused why place values ∙ ap (λ (i : ℕ). reply (refusalNumber why) i values) e; port = λ h. refl; notices = λ h. refl }
+  told-refused : (here : Bool) → (isFrame op && here) ≡ false → (why : Refusal) {values : List ℕ} → 0 ≡ placeBeside (refusalNumber why) op → isBroken (refusalNumber why) ≡ false
+      → Told here op p (refused why p) (refusalNumber why) values
+  told-refused here h why {values} e b =
+      record {
+        answer = reply-refused why 0 values ∙ ap (λ (i : ℕ). reply (refusalNumber why) i values) e;
+        port = λ z. rw h refl;
+        notices = λ z. rw b refl;
+        whole = λ z. b;
+      }
 
-  told-refused : (why : Refusal) {values : List ℕ} → 0 ≡ placeBeside (refusalNumber why) op → Told op p (refused why p) (refusalNumber why) values
-  told-refused why e = told-place why 0 e
+  -- a frame
+  told-rejected : isFrame op ≡ true → (why : Refusal) (place : ℕ) {values : List ℕ} → place ≡ placeBeside (refusalNumber why) op
+      → Told true op p (rejected why place p) (refusalNumber why) values
+  unfolding rejected breaks
+  told-rejected h why place {values} e =
+      record {
+        answer = reply-refused why place values ∙ ap (λ (i : ℕ). reply (refusalNumber why) i values) e;
+        port = λ z. rw h refl;
+        notices = λ z. by (isBroken (refusalNumber why)) (p .control .broken);
+        whole = λ z. absurd (false≢true (sym z ∙ h));
+      }
+    where
+      by : (a b : Bool) → alone (newlyMarked ControlError b a) ≡ (if a then alone (newlyMarked ControlError b true) else silent)
+      by true b = refl
+      by false true = refl
+      by false false = refl
 
   -- 16 before all others
-  told-at : (b : Bool) (e : Event) (n : ℕ) → Asks op p e n → Asks op p (if b then e else refused NoPort p) (if not b then 16 else n)
+  told-at : (b : Bool) (e : Event) (n : ℕ) → Asks true op p e n → Asks b op p (if b then e else refused NoPort p) (if not b then 16 else n)
   unfolding refusalNumber placeBeside
   told-at true e n h = h
-  told-at false e n h = told-refused NoPort refl
+  told-at false e n h = told-refused false (and-no (isFrame op)) NoPort refl refl
 
-  told-event : (x : Raised) (q : Port) → Asks op p (event x p q) 0
+  told-event : (x : Raised) (q : Port) → Asks true op p (event x p q) 0
   unfolding writing.asks reply
-  told-event x q = record { answer = refl; port = λ h. absurd (h refl); notices = λ h. absurd (h refl) }
+  told-event x q = record { answer = refl; port = λ h. absurd (h refl); notices = λ h. absurd (h refl); whole = λ z. refl }
 
-  told-unchanged : Asks op p (unchanged p) 0
+  told-unchanged : Asks true op p (unchanged p) 0
   unfolding reply
-  told-unchanged = record { answer = rw (same-refl (writing.toWrite p)) refl; port = λ h. absurd (h refl); notices = λ h. absurd (h refl) }
+  told-unchanged = record { answer = rw (same-refl (writing.toWrite p)) refl; port = λ h. absurd (h refl); notices = λ h. absurd (h refl); whole = λ z. refl }
 
-  told-frame : (o : List ℕ) (a b : Bool) (x : Reading) (n : ℕ) → readNumber x ≡ n → readPlace x ≡ placeBeside n op →
-      Asks op p (if not a then refused NotRunning p else if b then refused SeveralNeighbours p else given o x p) (if not a then 1 else if b then 2 else n)
+  told-frame : isFrame op ≡ true → (o : List ℕ) (a b : Bool) (x : Reading) (n : ℕ) → readNumber x ≡ n → readPlace x ≡ placeBeside n op →
+      Asks true op p (if not a then rejected NotRunning 0 p else if b then rejected SeveralNeighbours 0 p else given o x p) (if not a then 1 else if b then 2 else n)
   unfolding given accepted frameEvent refusalNumber placeBeside
-  told-frame o false b x n e i = told-refused NotRunning refl
-  told-frame o true true x n e i = told-refused SeveralNeighbours refl
-  told-frame o true false (read.Refused why place) n e i = rw (← e) (told-place why place (i ∙ rw e refl))
-  told-frame o true false (read.Accepted d) n e i = rw (← e) (told-event _ _)
+  told-frame h o false b x n e i = told-rejected h NotRunning 0 refl
+  told-frame h o true true x n e i = told-rejected h SeveralNeighbours 0 refl
+  told-frame h o true false (read.Refused why place) n e i = rw (← e) (told-rejected h why place (i ∙ rw e refl))
+  told-frame h o true false (read.Accepted d) n e i = rw (← e) (told-event _ _)
 
-  told-gone : (a : Bool) (x : Raised) → Asks op p (if not a then refused NotRunning p else event x p (freshPort p)) (if not a then 1 else 0)
+  told-gone : isFrame op ≡ false → (a : Bool) (x : Raised) → Asks true op p (if not a then refused NotRunning p else event x p (freshPort p)) (if not a then 1 else 0)
   unfolding refusalNumber placeBeside
-  told-gone false x = told-refused NotRunning refl
-  told-gone true x = told-event x (freshPort p)
+  told-gone h false x = told-refused true (here-no (isFrame op) h) NotRunning refl refl
+  told-gone h true x = told-event x (freshPort p)
 
-  told-flag : (b : Bool) (x : Raised) (q : Port) → Asks op p (if b then unchanged p else event x p q) 0
+  told-flag : (b : Bool) (x : Raised) (q : Port) → Asks true op p (if b then unchanged p else event x p q) 0
   told-flag true x q = told-unchanged
   told-flag false x q = told-event x q
 
-  told-feature : (f : Feature) (w : Switches) (o : List ℕ) (b : Bool) →
-      Asks op p (if b then setTo f (settingOf f w o) p else refused InvalidSetting p) (if not b then 9 else 0)
+  told-feature : isFrame op ≡ false → (f : Feature) (w : Switches) (o : List ℕ) (b : Bool) →
+      Asks true op p (if b then setTo f (settingOf f w o) p else refused InvalidSetting p) (if not b then 9 else 0)
   unfolding refusalNumber placeBeside setTo
-  told-feature f w o false = told-refused InvalidSetting refl
-  told-feature f w o true = told-flag (sameSetting (featureOf p f .setting) (settingOf f w o)) raised.Nothing (settingChanged f (settingOf f w o) p)
+  told-feature h f w o false = told-refused true (here-no (isFrame op) h) InvalidSetting refl refl
+  told-feature h f w o true = told-flag (sameSetting (featureOf p f .setting) (settingOf f w o)) raised.Nothing (settingChanged f (settingOf f w o) p)
 
   -- over the tests "number is 2, 3, 4"
-  told-setting : (w : Switches) (o : List ℕ) (a b c : Bool) →
-      Asks op p
+  told-setting : isFrame op ≡ false → (w : Switches) (o : List ℕ) (a b c : Bool) →
+      Asks true op p
       (if a then changedFeature Groups w o p
       else if b then changedFeature Flow w o p
       else if c then changedFeature Applications w o p
@@ -133,21 +169,21 @@ module _ (op : Operation) (p : Port) where
       else if (if a then not (validLocal Groups o) else if b then not (validLocal Flow o) else if c then not (validLocal Applications o) else true) then 9
       else 0)
   unfolding refusalNumber placeBeside changedFeature
-  told-setting w o true b c = told-feature Groups w o (validLocal Groups o)
-  told-setting w o false true c = told-feature Flow w o (validLocal Flow o)
-  told-setting w o false false true = told-feature Applications w o (validLocal Applications o)
-  told-setting w o false false false = told-refused UnknownFeature refl
+  told-setting h w o true b c = told-feature h Groups w o (validLocal Groups o)
+  told-setting h w o false true c = told-feature h Flow w o (validLocal Flow o)
+  told-setting h w o false false true = told-feature h Applications w o (validLocal Applications o)
+  told-setting h w o false false false = told-refused true (here-no (isFrame op) h) UnknownFeature refl refl
 
   -- creation, over the tests of its three settings
-  told-created : (v : Versions) (w : Feature → Switches) (o : Feature → List ℕ) (t a b d : Bool) →
-      Asks op p (if t then (if a && b && d then made p (createdPort v w o) else refused InvalidSetting p) else refused NoPort p)
+  told-created : isFrame op ≡ false → (v : Versions) (w : Feature → Switches) (o : Feature → List ℕ) (t a b d : Bool) →
+      Asks t op p (if t then (if a && b && d then made p (createdPort v w o) else refused InvalidSetting p) else refused NoPort p)
       (if not t then 16 else if not a || not b || not d then 9 else 0)
   unfolding refusalNumber placeBeside writing.asks reply
-  told-created v w o false a b d = told-refused NoPort refl
-  told-created v w o true false b d = told-refused InvalidSetting refl
-  told-created v w o true true false d = told-refused InvalidSetting refl
-  told-created v w o true true true false = told-refused InvalidSetting refl
-  told-created v w o true true true true = record { answer = refl; port = λ h. absurd (h refl); notices = λ h. absurd (h refl) }
+  told-created h v w o false a b d = told-refused false (and-no (isFrame op)) NoPort refl refl
+  told-created h v w o true false b d = told-refused true (here-no (isFrame op) h) InvalidSetting refl refl
+  told-created h v w o true true false d = told-refused true (here-no (isFrame op) h) InvalidSetting refl refl
+  told-created h v w o true true true false = told-refused true (here-no (isFrame op) h) InvalidSetting refl refl
+  told-created h v w o true true true true = record { answer = refl; port = λ z. absurd (z refl); notices = λ z. absurd (z refl); whole = λ z. refl }
 
 -- a request to write, over its tests
 module _ (out after : List ℕ) (n : ℕ) where
@@ -166,6 +202,18 @@ module _ (out after : List ℕ) (n : ℕ) where
   write-stays true false b h = refl
   write-stays true true true h = refl
   write-stays true true false h = absurd (h refl)
+
+-- a number of its own is none of a broken control's
+write-whole : (t a b : Bool) → isBroken (if not t then 16 else if not a then 1 else if b then 10 else 0) ≡ false
+write-whole false a b = refl
+write-whole true false b = refl
+write-whole true true true = refl
+write-whole true true false = refl
+
+take-whole : (t b : Bool) → isBroken (if not t then 16 else if b then 12 else 0) ≡ false
+take-whole false b = refl
+take-whole true true = refl
+take-whole true false = refl
 
 -- taking, over its tests
 module _ (n : ℕ) (l : Log) where
@@ -194,25 +242,25 @@ module _ (n : ℕ) (p : Port) (held : ℕ) where
   abbrev first : Operation → ℕ
   first x = firstIn order n p held x
 
-  create-told : (v : Versions) (w : Feature → Switches) (o : Feature → List ℕ) → Asks (create v w o) p (eventOf n p (create v w o)) (first (create v w o))
+  create-told : (v : Versions) (w : Feature → Switches) (o : Feature → List ℕ) → Asks (isPort n) (create v w o) p (eventOf n p (create v w o)) (first (create v w o))
   unfolding eventOf created events.created settingsValid firstIn applies
-  create-told v w o = told-created (create v w o) p v w o (isPort n) (validLocal Groups (o Groups)) (validLocal Flow (o Flow)) (validLocal Applications (o Applications))
+  create-told v w o = told-created (create v w o) p refl v w o (isPort n) (validLocal Groups (o Groups)) (validLocal Flow (o Flow)) (validLocal Applications (o Applications))
 
-  frame-told : (o : List ℕ) → Asks (frame o) p (eventOf n p (frame o)) (first (frame o))
+  frame-told : (o : List ℕ) → Asks (isPort n) (frame o) p (eventOf n p (frame o)) (first (frame o))
   unfolding eventOf changed happens handling.handled firstIn applies
-  frame-told o = told-at (frame o) p (isPort n) _ _ (told-frame (frame o) p o (running p) (p .several) (readFrame o) _ (reading o .number) (reading o .place))
+  frame-told o = told-at (frame o) p (isPort n) _ _ (told-frame (frame o) p refl o (running p) (p .several) (readFrame o) _ (reading o .number) (reading o .place))
 
-  gone-told : Asks gone p (eventOf n p gone) (first gone)
+  gone-told : Asks (isPort n) gone p (eventOf n p gone) (first gone)
   unfolding eventOf changed happens events.peerGone firstIn applies
-  gone-told = told-at gone p (isPort n) _ _ (told-gone gone p (running p) _)
+  gone-told = told-at gone p (isPort n) _ _ (told-gone gone p refl (running p) _)
 
-  flag-told : (x : Flag) (on : Bool) → Asks (flag x on) p (eventOf n p (flag x on)) (first (flag x on))
+  flag-told : (x : Flag) (on : Bool) → Asks (isPort n) (flag x on) p (eventOf n p (flag x on)) (first (flag x on))
   unfolding eventOf changed happens events.flagged firstIn applies
   flag-told x on = told-at (flag x on) p (isPort n) _ _ (told-flag (flag x on) p (Bool·beq (flagOf p x) on) (flagNotice x on) (flagSet x on p))
 
-  setting-told : (number : ℕ) (w : Switches) (o : List ℕ) → Asks (setting number w o) p (eventOf n p (setting number w o)) (first (setting number w o))
+  setting-told : (number : ℕ) (w : Switches) (o : List ℕ) → Asks (isPort n) (setting number w o) p (eventOf n p (setting number w o)) (first (setting number w o))
   unfolding eventOf changed happens events.changedSetting firstIn applies invalid
-  setting-told number w o = told-at (setting number w o) p (isPort n) _ _ (told-setting (setting number w o) p w o (number is 2) (number is 3) (number is 4))
+  setting-told number w o = told-at (setting number w o) p (isPort n) _ _ (told-setting (setting number w o) p refl w o (number is 2) (number is 3) (number is 4))
 
 -- ---- what a refused event leaves of a recorder
 
@@ -247,8 +295,35 @@ module _ (r : Recorder) (n : ℕ) where
       by true = same
       by false = refl
 
-  told-stays : {op : Operation} {k : ℕ} {values : List ℕ} (e : Event) → Told op (portAt r n) e k values → (k ≡ 0 → ⊥) → stored r n e ≡ r
-  told-stays e t h = stored-same e (t .port h) (t .notices h)
+  -- what a refused event leaves
+  news-in-order : (k : ℕ) (p : Port) → inOrder n (noticesLeft k p) ≡ newsOf n k p
+  unfolding inOrder listed newsOf
+  news-in-order k p = by (isBroken k) (p .control .broken)
+    where
+      by : (a b : Bool) → inOrder n (if a then alone (newlyMarked ControlError b true) else silent) ≡ (if a && not b then record { port = n; kind = ControlError; feature = 0 } ∷ [] else [])
+      by true true = refl
+      by true false = refl
+      by false b = refl
+
+  told-leaves : {op : Operation} {k : ℕ} {values : List ℕ} (e : Event) → Told (isPort n) op (portAt r n) e k values → (k ≡ 0 → ⊥) → stored r n e ≡ leftBy r n k op
+  unfolding stored leftBy newsOf loggedAll
+  told-leaves {op} {k} e t h = by (isPort n) (isFrame op) refl refl
+    where
+      log : loggedAll (r .log) (inOrder n (e .notices)) ≡ loggedAll (r .log) (newsOf n k (portAt r n))
+      log = ap (λ (x : Notices). loggedAll (r .log) (inOrder n x)) (t .notices h) ∙ ap (loggedAll (r .log)) (news-in-order k (portAt r n))
+
+      by : (a b : Bool) → isPort n ≡ a → isFrame op ≡ b
+          → (if a then record { ports = set (r .ports) (placeOf n) (e .port); log = loggedAll (r .log) (inOrder n (e .notices)) } else r)
+          ≡ (if b && a then record { ports = set (r .ports) (placeOf n) (withBroken (portAt r n) (isBroken k)); log = loggedAll (r .log) (newsOf n k (portAt r n)) } else r)
+      by false b ea eb = rw (and-no b) refl
+      by true true ea eb =
+          let q : e .port ≡ withBroken (portAt r n) (isBroken k) = t .port h ∙ rw (ea, eb) refl in
+          λ i. record { ports = set (r .ports) (placeOf n) (q i); log = log i }
+      by true false ea eb =
+          let q : e .port ≡ portAt r n = t .port h ∙ rw (ea, eb) refl in
+          let none : newsOf n k (portAt r n) ≡ [] = rw (t .whole eb) refl in
+          (λ i. record { ports = set (r .ports) (placeOf n) (q i); log = (log ∙ ap (loggedAll (r .log)) none) i })
+          ∙ rw (set-same (r .ports) (placeOf n) blankPort) refl
 
   table : (x : Operation) → replyAt r n x ≡ reply (firstAt r n x) (placeBeside (firstAt r n x) x) (valuesAt r n x)
   unfolding replyAt valuesAt written writing.written taken firstIn applies
@@ -261,41 +336,68 @@ module _ (r : Recorder) (n : ℕ) where
       write-reply out out (length (writing.frame (portAt r n))) (isPort n) (running (portAt r n)) (length out below length (writing.frame (portAt r n)))
   table take = take-reply n (r .log) (r .ports) (isPort n) (countOf n (r .log) is 0)
 
-  stays : (x : Operation) → (firstAt r n x ≡ 0 → ⊥) → (afterAt r n x ≡ r) × (lentAt r n x ≡ lentTo x)
-  unfolding afterAt lentAt output writing.output taken firstIn applies
-  stays (create v w o) h = (told-stays _ (create-told n (portAt r n) (countOf n (r .log)) v w o) h, refl)
-  stays (frame o) h = (told-stays _ (frame-told n (portAt r n) (countOf n (r .log)) o) h, refl)
-  stays gone h = (told-stays _ (gone-told n (portAt r n) (countOf n (r .log))) h, refl)
-  stays (flag x on) h = (told-stays _ (flag-told n (portAt r n) (countOf n (r .log)) x on) h, refl)
-  stays (setting number w o) h = (told-stays _ (setting-told n (portAt r n) (countOf n (r .log)) number w o) h, refl)
-  stays (write out) h = (
+  leaves : (x : Operation) → (firstAt r n x ≡ 0 → ⊥) → (afterAt r n x ≡ leftBy r n (firstAt r n x) x) × (lentAt r n x ≡ lentTo x)
+  unfolding afterAt lentAt output writing.output taken firstIn applies leftBy
+  leaves (create v w o) h = (told-leaves _ (create-told n (portAt r n) (countOf n (r .log)) v w o) h, refl)
+  leaves (frame o) h = (told-leaves _ (frame-told n (portAt r n) (countOf n (r .log)) o) h, refl)
+  leaves gone h = (told-leaves _ (gone-told n (portAt r n) (countOf n (r .log))) h, refl)
+  leaves (flag x on) h = (told-leaves _ (flag-told n (portAt r n) (countOf n (r .log)) x on) h, refl)
+  leaves (setting number w o) h = (told-leaves _ (setting-told n (portAt r n) (countOf n (r .log)) number w o) h, refl)
+  leaves (write out) h = (
     refl,
     ap (λ (o : List ℕ). o ∷ [])
         (write-stays out (writing.frame (portAt r n) ++ drop (length (writing.frame (portAt r n))) out) (length (writing.frame (portAt r n))) (isPort n)
         (running (portAt r n)) (length out below length (writing.frame (portAt r n))) h),
   )
-  stays take h = (
+  leaves take h = (
     ap (λ (l : Log). record { ports = r .ports; log = l }) (take-stays n (r .log) (isPort n) (countOf n (r .log) is 0) h),
     refl,
   )
 
-  raises-none : {op : Operation} {k : ℕ} {values : List ℕ} (e : Event) → Told op (portAt r n) e k values → (k ≡ 0 → ⊥) → inOrder n (e .notices) ≡ []
-  unfolding inOrder listed
-  raises-none e t h = rw (t .notices h) refl
+  raises-news : {op : Operation} {k : ℕ} {values : List ℕ} (e : Event) → Told (isPort n) op (portAt r n) e k values → (k ≡ 0 → ⊥)
+      → inOrder n (e .notices) ≡ newsOf n k (portAt r n)
+  raises-news {k = k} e t h = ap (inOrder n) (t .notices h) ∙ news-in-order k (portAt r n)
 
-  quiet : (x : Operation) → (firstAt r n x ≡ 0 → ⊥) → raisedAt r n x ≡ []
-  quiet (create v w o) h = raises-none _ (create-told n (portAt r n) (countOf n (r .log)) v w o) h
-  quiet (frame o) h = raises-none _ (frame-told n (portAt r n) (countOf n (r .log)) o) h
-  quiet gone h = raises-none _ (gone-told n (portAt r n) (countOf n (r .log))) h
-  quiet (flag x on) h = raises-none _ (flag-told n (portAt r n) (countOf n (r .log)) x on) h
-  quiet (setting number w o) h = raises-none _ (setting-told n (portAt r n) (countOf n (r .log)) number w o) h
-  quiet (write out) h = write-quiet out
-  quiet take h = take-quiet
+  raises : (x : Operation) → (firstAt r n x ≡ 0 → ⊥) → raisedAt r n x ≡ newsOf n (firstAt r n x) (portAt r n)
+  unfolding newsOf firstIn applies
+  raises (create v w o) h = raises-news _ (create-told n (portAt r n) (countOf n (r .log)) v w o) h
+  raises (frame o) h = raises-news _ (frame-told n (portAt r n) (countOf n (r .log)) o) h
+  raises gone h = raises-news _ (gone-told n (portAt r n) (countOf n (r .log))) h
+  raises (flag x on) h = raises-news _ (flag-told n (portAt r n) (countOf n (r .log)) x on) h
+  raises (setting number w o) h = raises-news _ (setting-told n (portAt r n) (countOf n (r .log)) number w o) h
+  raises (write out) h = write-quiet out ∙ rw (write-whole (isPort n) (running (portAt r n)) (length out below length (writing.frame (portAt r n)))) refl
+  raises take h = take-quiet ∙ rw (take-whole (isPort n) (countOf n (r .log) is 0)) refl
+
+  -- a call whose number is not 0 is refused by a row of the table
+  pub refused-first : (x : Operation) → (replyAt r n x .number is 0) ≡ false → firstAt r n x ≡ 0 → ⊥
+  unfolding reply
+  refused-first x z e =
+      eqb-false (replyAt r n x .number) 0 z
+      (ap (λ (a : Reply). a .number) (table x) ∙ ap (λ (k : ℕ). reply k (placeBeside k x) (valuesAt r n x) .number) e)
+
+  -- and leaves its port, but for the mark
+  left-unmarked : {op : Operation} {k : ℕ} {values : List ℕ} (e : Event) → Told (isPort n) op (portAt r n) e k values → (k ≡ 0 → ⊥) → unmarked (e .port) ≡ unmarked (portAt r n)
+  left-unmarked {op} {k} e t h = ap unmarked (t .port h) ∙ by (isFrame op && isPort n)
+    where
+      by : (b : Bool) → unmarked (if b then withBroken (portAt r n) (isBroken k) else portAt r n) ≡ unmarked (portAt r n)
+      by true = refl
+      by false = refl
+
+  pub refused-port : (x : Operation) → (replyAt r n x .number is 0) ≡ false → unmarked (eventOf n (portAt r n) x .port) ≡ unmarked (portAt r n)
+  unfolding eventOf
+  refused-port (create v w o) z = left-unmarked _ (create-told n (portAt r n) (countOf n (r .log)) v w o) (refused-first (create v w o) z)
+  refused-port (frame o) z = left-unmarked _ (frame-told n (portAt r n) (countOf n (r .log)) o) (refused-first (frame o) z)
+  refused-port gone z = left-unmarked _ (gone-told n (portAt r n) (countOf n (r .log))) (refused-first gone z)
+  refused-port (flag x on) z = left-unmarked _ (flag-told n (portAt r n) (countOf n (r .log)) x on) (refused-first (flag x on) z)
+  refused-port (setting number w o) z =
+      left-unmarked _ (setting-told n (portAt r n) (countOf n (r .log)) number w o) (refused-first (setting number w o) z)
+  refused-port (write out) z = refl
+  refused-port take z = refl
 
 pub answers : (r : Recorder) (x : Call) → Answers r x
 answers r x =
     record {
       answer = table r (x .port) (x .operation);
-      unchanged = stays r (x .port) (x .operation);
-      quiet = quiet r (x .port) (x .operation);
+      unchanged = leaves r (x .port) (x .operation);
+      raises = raises r (x .port) (x .operation);
     }

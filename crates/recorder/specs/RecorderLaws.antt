@@ -110,7 +110,7 @@ module _ (n : ℕ) (p : Port) {b : Bool} (eb : b ≡ isPort n) where
   changed-handled o t er = changed-frame change.Frame o t refl er
 
   pub changed-refused : {e : Event} {r : Reading} {why : Refusal} {place : ℕ} (o : List ℕ) → not b ≡ false → Admits p o r → r ≡ Refused why place
-      → e ≡ events.refusedAt why place p → e ≡ changed n p change.Frame o
+      → e ≡ handling.rejected why place p → e ≡ changed n p change.Frame o
   changed-refused o t a er ee = changed-handled o t (handle-refused p o a er ee)
 
   module _ (out : List ℕ) where

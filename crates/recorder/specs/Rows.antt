@@ -81,6 +81,10 @@ ofFrame (call.setting number w o) test = false
 ofFrame (call.write out) test = false
 ofFrame call.take test = false
 
+-- the operation is a frame
+abbrev pub isFrame : Operation → Bool
+isFrame x = ofFrame x (λ o. true)
+
 -- a place in a frame, and 0 of any other operation
 abbrev pub inFrame : Operation → (List ℕ → ℕ) → ℕ
 inFrame (call.create v w o) place = 0

@@ -39,4 +39,6 @@ pub record SoundRecorder (r : Recorder) : Type 0 where
   pub four : length (r .ports) ≡ 4
   pub ports : (n : ℕ) → SoundPort (portAt r n)
   pub stopped : (n : ℕ) → running (portAt r n) ≡ false → freshPort (portAt r n) ≡ portAt r n
+  -- so the mark of a broken control is off while stopped (02, E1: "a fresh state, clears it")
+  pub mark : (n : ℕ) → running (portAt r n) ≡ false → portAt r n .control .broken ≡ false
   pub log : Sound (r .log)

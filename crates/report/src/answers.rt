@@ -11,7 +11,7 @@ fn numbered(out: &mut [u8], at: usize, number: u8, feature: u8) -> usize {
     forms::put(
         out,
         at,
-        b"notice # [||bad|several-neighbours|transmit-off|receive-off|duplicate-control|duplicate|absent|peer-gone|not-compatible] [port||groups|flow|applications]\n",
+        b"notice # [|control-error|bad|several-neighbours|transmit-off|receive-off|duplicate-control|duplicate|absent|peer-gone|not-compatible] [port||groups|flow|applications]\n",
         &numbers,
     )
 }

@@ -154,16 +154,18 @@ fn raised(n: Notices) -> [u8; 4] {
     [of_port, of_groups, of_flow, of_applications]
 }
 
-fn answered(x: Answer, n: Notices) -> Told {
+fn answer_of(x: Answer) -> Told {
     match x {
-        Answer::Done(wish) => {
-            let mut told = done(wish, 0, 0, 0);
-            let numbers = raised(n);
-            told.raised = numbers;
-            told
-        }
+        Answer::Done(wish) => done(wish, 0, 0, 0),
         Answer::Refused(why, place) => refused(why, place),
     }
+}
+
+fn answered(x: Answer, n: Notices) -> Told {
+    let mut told = answer_of(x);
+    let numbers = raised(n);
+    told.raised = numbers;
+    told
 }
 
 fn took(x: Took) -> Told {

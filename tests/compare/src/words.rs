@@ -146,7 +146,7 @@ impl<'a> Named<'a> {
             self.take(format!("{of}{name}"), size);
         }
         self.take(format!("{of}RcvdAckNo"), 4);
-        for name in ["seen", "duplicate", "admin", "receive", "transmit", "several"] {
+        for name in ["seen", "duplicate", "broken", "admin", "receive", "transmit", "several"] {
             self.take(format!("{of}{name}"), 1);
         }
         for feature in ["groups", "flow", "applications"].map(|name| format!("{of}{name}")) {

@@ -3,133 +3,17 @@
 //!
 //! COMPARE_SEED and COMPARE_EVENTS give another seed and another number of events.
 
+mod coverage;
 use compare::{engine, environment, script, words, Script, Step, What};
+use coverage::Coverage;
 use reference::events::{assemble, Answer, Event, Generator, OwnedSetting, OwnedSettings};
 use reference::rng::XorShift;
-use reference::{Log, Notice, Port, Reason, Recorder};
+use reference::{Port, Recorder};
 
 const SEED: u64 = 0x0dcb_0101;
 const EVENTS: u64 = 3_000_000;
 /// Steps of one script, each of which begins with a blank recorder.
 const STEPS: usize = 1_000;
-
-/// What has occurred.
-#[derive(Debug, Default)]
-struct Coverage {
-    /// 13 to 15 are not given yet.
-    refusals: [u32; 17],
-    /// Refusals 5 to 8, which have a place other than 0: at 6, the first, and later.
-    places: [[u32; 2]; 4],
-    /// By feature, then by reason.
-    became: [[u32; 10]; 3],
-    notices: [u32; 11],
-    dropped_by: DroppedBy,
-    /// A dropped count that stayed at its end, by port.
-    dropped_stayed: [u32; 4],
-    seqno_wrapped: u32,
-    featureseqno_wrapped: u32,
-    looks: u32,
-}
-
-/// Whose write found the log full.
-#[derive(Debug, Default)]
-struct DroppedBy {
-    holding_none: u32,
-    holding_fewer: u32,
-    holding_15: u32,
-    holding_16: u32,
-    holding_more: u32,
-    /// Where several others held most, by the port that lost one.
-    tie: [u32; 4],
-}
-
-impl DroppedBy {
-    /// The first notice that a port wrote in an event.
-    fn note(&mut self, before: &Log, writer: u8) {
-        let Some(loser) = before.loser(writer) else {
-            return;
-        };
-        let count = match before.held(writer) {
-            0 => &mut self.holding_none,
-            1..=14 => &mut self.holding_fewer,
-            15 => &mut self.holding_15,
-            16 => &mut self.holding_16,
-            _ => &mut self.holding_more,
-        };
-        *count += 1;
-        let most = (1..=4).filter(|&port| before.held(port) == before.held(loser)).count();
-        if before.held(writer) < 16 && most > 1 {
-            self.tie[usize::from(loser) - 1] += 1;
-        }
-    }
-
-    fn all_occurred(&self) -> bool {
-        // Port 4 is never the lowest of several.
-        let tie = &self.tie[..3];
-        [self.holding_none, self.holding_fewer, self.holding_15, self.holding_16]
-            .iter()
-            .chain([&self.holding_more])
-            .chain(tie)
-            .all(|&count| count > 0)
-    }
-}
-
-impl Coverage {
-    fn note_refusal(&mut self, answer: &Answer) {
-        self.refusals[usize::from(answer.refusal)] += 1;
-        if let 5..=8 = answer.refusal {
-            let [first, later] = &mut self.places[usize::from(answer.refusal) - 5];
-            *first += u32::from(answer.place == 6);
-            *later += u32::from(answer.place > 6);
-        }
-    }
-
-    /// What an event did to its port.
-    fn note_port(&mut self, before: &Port, after: &Port) {
-        if before.control().seqno == u32::MAX && after.control().seqno == 0 {
-            self.seqno_wrapped += u32::from(after.control().rcvdackno == u32::MAX);
-        }
-        for (became, number) in self.became.iter_mut().zip(2..) {
-            let (was, is) = (before.feature(number), after.feature(number));
-            if was.reason != is.reason {
-                became[is.reason as usize] += 1;
-            }
-            let changed = was.featureseqno != is.featureseqno;
-            self.featureseqno_wrapped += u32::from(changed && is.featureseqno == 0);
-        }
-    }
-
-    /// What an event did to the log.
-    fn note_log(&mut self, before: &Log, raised: &[Notice]) {
-        for notice in raised {
-            self.notices[usize::from(notice.number)] += 1;
-        }
-        let Some(first) = raised.first() else {
-            return;
-        };
-        self.dropped_by.note(before, first.port);
-        if let Some(loser) = before.loser(first.port) {
-            let stayed = before.dropped(loser) == u32::MAX;
-            self.dropped_stayed[usize::from(loser) - 1] += u32::from(stayed);
-        }
-    }
-
-    fn all_occurred(&self) {
-        for (number, &count) in self.refusals.iter().enumerate() {
-            assert_eq!(count > 0, !(13..16).contains(&number), "{self:#?}");
-        }
-        assert!(self.places.as_flattened().iter().all(|&count| count > 0), "{self:#?}");
-        assert!(self.notices[2..].iter().all(|&count| count > 0), "{self:#?}");
-        for reason in Reason::ALL {
-            let each = self.became.map(|counts| counts[reason as usize]);
-            assert!(each.iter().all(|&count| count > 0), "{reason:?} {self:#?}");
-        }
-        assert!(self.dropped_by.all_occurred(), "{self:#?}");
-        assert!(self.dropped_stayed.iter().all(|&count| count > 0), "{self:#?}");
-        let rare = [self.seqno_wrapped, self.featureseqno_wrapped, self.looks];
-        assert!(rare.iter().all(|&count| count > 0), "{self:#?}");
-    }
-}
 
 /// The generator's events, with numbers set now and then to where they wrap, and
 /// looks at all four ports.
@@ -211,14 +95,7 @@ fn the_engines_agree() {
         let before = source.generator.recorder().clone();
         let (step, answer) = source.next();
         let after = source.generator.recorder();
-        coverage.note_refusal(&answer);
-        coverage.looks += u32::from(step.what == What::Look);
-        if let (What::Event(_), Ok(was), Ok(is)) =
-            (&step.what, before.port(step.port), after.port(step.port))
-        {
-            coverage.note_port(was, is);
-            coverage.note_log(before.log(), &answer.raised);
-        }
+        coverage.note(&step, &answer, &before, after);
         script.push(step, &answer, after);
     }
     check(&script, &mut out);

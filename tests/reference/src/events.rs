@@ -641,13 +641,14 @@ impl Generator {
         }
     }
 
-    /// What mostly raises a notice: sub-TLVs that are absent and bad in turn, a peer
-    /// that is gone, a flag.
+    /// What mostly raises a notice: sub-TLVs that are absent and bad in turn, a broken
+    /// control, a peer that is gone, a flag.
     fn chatter(&mut self, state: &Port) -> Event {
         let rng = &mut self.rng;
         match rng.below(10) {
             0 => Event::PeerGone,
             1 => Event::SetFlag(Flag::Transmit, !state.flags().transmit),
+            2 => Event::Frame(self.broken_control(state)),
             _ => {
                 let control = *state.control();
                 let mut body = vec![control.max, control.max];
@@ -714,7 +715,8 @@ impl Generator {
             0..=34 => self.peers_frame(port, state),
             35..=74 => self.crafted(state),
             75..=79 => self.stale(port, state),
-            80..=92 => self.damaged(port, state),
+            80..=89 => self.damaged(port, state),
+            90..=93 => self.broken_control(state),
             _ => self.hostile(),
         };
         let earlier = &mut self.earlier[usize::from(port) - 1];
@@ -886,6 +888,23 @@ impl Generator {
 
     fn crafted(&mut self, state: &Port) -> Vec<u8> {
         assemble(&self.sub_tlvs(state))
+    }
+
+    /// One control, whose Oper is above its Max or whose length is not 10, anywhere
+    /// among the rest.
+    fn broken_control(&mut self, state: &Port) -> Vec<u8> {
+        let mut list = self.sub_tlvs(state);
+        list.retain(|(kind, _)| *kind != CONTROL);
+        let rng = &mut self.rng;
+        let max = rng.below(255) as u8;
+        let mut body = vec![max + 1, max];
+        body.extend(rng.octets(8));
+        if rng.flip() {
+            body.resize(rng.pick(&[0, 1, 2, 9, 11, 20]), 0);
+        }
+        let place = rng.below(list.len() as u32 + 1) as usize;
+        list.insert(place, (CONTROL, body));
+        assemble(&list)
     }
 
     /// A good frame with one thing broken.

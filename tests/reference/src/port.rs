@@ -19,6 +19,8 @@ pub struct ControlState {
     pub rcvdackno: u32,
     pub peer_seen: bool,
     pub duplicate_control: bool,
+    /// The last frame since the fresh state was refused with 7 or 8 (document 02, E1).
+    pub broken_control: bool,
 }
 
 impl ControlState {
@@ -31,6 +33,7 @@ impl ControlState {
             rcvdackno: 0,
             peer_seen: false,
             duplicate_control: false,
+            broken_control: false,
         }
     }
 }
@@ -113,8 +116,21 @@ impl Port {
         Ok(port)
     }
 
-    /// A frame arrived. The answer says whether to send.
+    /// A frame arrived. The answer says whether to send. A refused frame changes
+    /// nothing but the broken control mark, and the log by its notice.
     pub(crate) fn frame(&mut self, octets: &[u8], log: &mut Writer) -> Result<bool, Refusal> {
+        let answer = self.handle(octets, log);
+        let broken = answer.is_err_and(|refusal| refusal.is_broken_control());
+        if broken && !self.control.broken_control {
+            log.write(log::CONTROL_ERROR, 0);
+        }
+        self.control.broken_control = broken;
+        answer
+    }
+
+    /// Refusals 1 to 8, or steps 1 to 5.
+    #[inline]
+    fn handle(&mut self, octets: &[u8], log: &mut Writer) -> Result<bool, Refusal> {
         if !self.running() {
             return Err(refusal::NOT_RUNNING.into());
         }

@@ -42,6 +42,12 @@ impl Refusal {
         Refusal { number, place: place as u16 }
     }
 
+    /// Whether the frame's one control is broken.
+    #[inline]
+    pub fn is_broken_control(&self) -> bool {
+        matches!(self.number, CONTROL_LENGTH | CONTROL_VERSIONS)
+    }
+
     /// Whether the place says something of the frame.
     pub fn has_place(&self) -> bool {
         (NOT_DCBX..=CONTROL_VERSIONS).contains(&self.number)

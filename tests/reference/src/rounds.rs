@@ -1,6 +1,6 @@
 //! Rounds of two ends, and the outcome rules applied to two settings alone.
 
-use crate::layout::{Parameters, LONGEST_FRAME};
+use crate::layout::{Parameters, APPLICATIONS, LONGEST_FRAME, PRIORITY_GROUPS};
 use crate::outcome::{Feature, Peer, Reason};
 use crate::port::Port;
 use crate::recorder::Recorder;
@@ -78,10 +78,14 @@ impl Ends {
         noise(self);
     }
 
-    /// All that demand 3 speaks of holds at both ends.
-    pub fn settled(&self) -> bool {
-        let [a, b] = self.ends();
-        settled_end(a, b) && settled_end(b, a)
+    /// All that demand 3 speaks of holds at end 0 or 1.
+    pub fn agreed_at(&self, i: usize) -> bool {
+        agreed_end(self.end(i), self.end(1 - i))
+    }
+
+    /// It holds at both.
+    pub fn agreed(&self) -> bool {
+        self.agreed_at(0) && self.agreed_at(1)
     }
 
     /// What each end holds of its peer is none or the peer's own.
@@ -89,6 +93,16 @@ impl Ends {
         let [a, b] = self.ends();
         held_end(a, b) && held_end(b, a)
     }
+}
+
+/// A peer is seen, RcvdAckNo = SeqNo, and every advertised feature is Syncd.
+pub fn settled(port: &Port) -> bool {
+    let control = port.control();
+    control.peer_seen
+        && control.rcvdackno == control.seqno
+        && (PRIORITY_GROUPS..=APPLICATIONS)
+            .map(|feature| port.feature(feature))
+            .all(|feature| !feature.advertise || feature.syncd)
 }
 
 /// What the outcome rules give for two settings alone.
@@ -170,7 +184,7 @@ fn as_expected<P: Parameters>(own: &Feature<P>, other: &Feature<P>) -> bool {
     own.syncd && held == expected
 }
 
-fn settled_end(own: &Port, other: &Port) -> bool {
+fn agreed_end(own: &Port, other: &Port) -> bool {
     let control = own.control();
     control.rcvdackno == control.seqno
         && control.oper == control.max.min(other.control().max)

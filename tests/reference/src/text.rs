@@ -19,6 +19,7 @@ pub fn place_name(feature: u8) -> &'static str {
 
 pub fn notice_name(number: u8) -> &'static str {
     match number {
+        1 => "control-error",
         2 => "bad",
         3 => "several-neighbours",
         4 => "transmit-off",

@@ -21,6 +21,9 @@ fn due(event: &Event, before: &Port, after: &Port) -> Vec<(u8, u8)> {
     if was.receive && !is.receive {
         due.push((5, 0));
     }
+    if !before.control().broken_control && after.control().broken_control {
+        due.push((1, 0));
+    }
     if !before.control().duplicate_control && after.control().duplicate_control {
         due.push((6, 0));
     }
@@ -176,6 +179,7 @@ fn lawful(port: &Port) {
         // The fresh state, stopped.
         assert_eq!(numbers(port), (0, 0, 0));
         assert!(!control.peer_seen && !control.duplicate_control && control.oper == control.max);
+        assert!(!control.broken_control);
         for number in 2..=4 {
             let f = port.feature(number);
             assert_eq!((f.featureseqno, f.oper, f.syncd), (1, f.max, !f.advertise));
@@ -228,8 +232,7 @@ impl Counts {
         let (was, is) = (before.port(call.port).unwrap(), after.port(call.port).unwrap());
         lawful(is);
         if answer.refusal != 0 {
-            assert!(!answer.wish);
-            assert_eq!(before.dump(), after.dump(), "{call:?}");
+            left_by_refusal(before, call, answer, after);
         }
         match &call.event {
             Event::Create(_) if answer.refusal == 0 => {
@@ -325,7 +328,7 @@ impl Counts {
             self.at_port(call, answer, before, after);
         } else {
             assert_eq!(answer.refusal, 16);
-            assert_eq!(before.dump(), after.dump());
+            left_by_refusal(before, call, answer, after);
         }
     }
 }
@@ -353,7 +356,7 @@ fn all_occur_and_all_is_kept() {
     }
     for (number, count) in counts.noticed.iter().enumerate() {
         println!("notice {number:2}: {count}");
-        assert_eq!(*count > 100, number >= 2);
+        assert_eq!(*count > 100, number >= 1);
     }
     for reason in Reason::ALL {
         let became = counts.became.map(|feature| feature[reason as usize]);

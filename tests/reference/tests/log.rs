@@ -13,17 +13,25 @@ fn recorder() -> Recorder {
     recorder
 }
 
-/// Raises one notice: 3, 4 or 5.
+/// Raises one notice: 1, 3, 4 or 5.
 fn raise(recorder: &mut Recorder, port: u8, number: u8) {
-    let (flag, on) = match number {
-        3 => (Flag::SeveralNeighbours, true),
-        4 => (Flag::Transmit, false),
-        _ => (Flag::Receive, false),
-    };
     let before = recorder.log().written();
-    recorder.set_flag(port, flag, on).unwrap();
+    match number {
+        1 => {
+            assert_eq!(refused_frame(recorder, port, &tlv("02 00")).number, 7);
+            assert_eq!(refused_frame(recorder, port, &tlv("")).number, 6);
+        }
+        3 => turn(recorder, port, Flag::SeveralNeighbours, true),
+        4 => turn(recorder, port, Flag::Transmit, false),
+        _ => turn(recorder, port, Flag::Receive, false),
+    }
     let raised: Vec<Notice> = recorder.log().since(before).collect();
     assert_eq!(raised, [Notice { port, number, feature: 0 }]);
+}
+
+/// Turns a flag on or off, and back.
+fn turn(recorder: &mut Recorder, port: u8, flag: Flag, on: bool) {
+    recorder.set_flag(port, flag, on).unwrap();
     recorder.set_flag(port, flag, !on).unwrap();
 }
 
@@ -50,16 +58,22 @@ fn dropped(recorder: &Recorder) -> [u32; 4] {
     [1, 2, 3, 4].map(|port| recorder.log().dropped(port))
 }
 
-/// One write by this port into a log that is full: exactly the oldest of `loser` goes.
+/// One write by this port into a log that is full: exactly the oldest of `loser` goes,
+/// whether an accepted event writes or a refused frame.
 fn loses(recorder: &mut Recorder, writer: u8, loser: u8) {
+    loses_for(&mut recorder.clone(), writer, 1, loser);
+    loses_for(recorder, writer, 5, loser);
+}
+
+fn loses_for(recorder: &mut Recorder, writer: u8, number: u8, loser: u8) {
     let mut expected: Vec<Notice> = recorder.log().notices().collect();
     assert_eq!(expected.len(), 64);
     let oldest = expected.iter().position(|notice| notice.port == loser).unwrap();
     expected.remove(oldest);
-    expected.push(Notice { port: writer, number: 5, feature: 0 });
+    expected.push(Notice { port: writer, number, feature: 0 });
     let mut counts = dropped(recorder);
     counts[usize::from(loser) - 1] += 1;
-    raise(recorder, writer, 5);
+    raise(recorder, writer, number);
     assert_eq!(recorder.log().notices().collect::<Vec<_>>(), expected);
     assert_eq!(dropped(recorder), counts);
 }

@@ -68,6 +68,7 @@ fn duplicate_control() {
     // A refused frame does not unmark.
     assert_eq!(port.frame(&frame(&vec![(1, vec![])])), Err(7));
     assert_eq!(port.frame(&frame(&vec![control(1, 0, 1, 1)])), Err(8));
+    assert_eq!(notices(&mut port), [(1, 0)]);
     assert_eq!(give(&mut port, &twice), []);
     // One readable control does, even one that stops at step 2.
     assert_eq!(give(&mut port, &vec![control(1, 1, 1, 1)]), []);

@@ -1,18 +1,19 @@
-//! Demand 3: five rounds settle, and what is held of the peer is its own, between
-//! any port of one recorder and any port of another, whatever their other ports do.
+//! Demand 3: five rounds lead to agreement; an end that is settled has agreed; and what is
+//! held of the peer is its own. Between any port of one recorder and any port of another,
+//! whatever their other ports do and whatever is refused, broken controls among it.
 
 mod common;
 use common::*;
 use reference::events::{random, Call, Event, OwnedSetting, OwnedSettings};
 use reference::layout;
 use reference::rng::XorShift;
-use reference::rounds::{Ends, Round};
+use reference::rounds::{settled, Ends, Round};
 use reference::{Flag, Reason, Recorder};
 
 /// A few calls that are refused at this port, whatever their octets.
 fn refused(rng: &mut XorShift, recorder: &mut Recorder, port: u8) {
     while rng.percent(20) {
-        match rng.below(5) {
+        match rng.below(7) {
             0 => {
                 let length = written_at(recorder, port).unwrap().len();
                 let mut out = vec![0; rng.below(length as u32) as usize];
@@ -22,10 +23,14 @@ fn refused(rng: &mut XorShift, recorder: &mut Recorder, port: u8) {
                 let length = rng.below(80) as usize;
                 let octets = rng.octets(length);
                 if layout::read(&octets).is_err() {
-                    assert!(recorder.frame(port, &octets).is_err());
+                    refused_frame(recorder, port, &octets);
                 }
             }
-            2 => {
+            2 | 3 => {
+                let octets = broken_control(rng, written_at(recorder, port).unwrap());
+                assert!(refused_frame(recorder, port, &octets).is_broken_control());
+            }
+            4 => {
                 let number = rng.pick(&[0, 5, 255]);
                 let octets = written_at(recorder, port).unwrap();
                 assert_eq!(recorder.frame(number, &octets), Err(16.into()));
@@ -41,11 +46,24 @@ fn refused(rng: &mut XorShift, recorder: &mut Recorder, port: u8) {
                     octets.truncate(place);
                 }
                 if layout::read(&octets).is_err() {
-                    assert!(recorder.frame(port, &octets).is_err());
+                    refused_frame(recorder, port, &octets);
                 }
             }
         }
     }
+}
+
+/// A written frame whose control, the first sub-TLV, has its Oper above its Max or another length.
+fn broken_control(rng: &mut XorShift, mut octets: Vec<u8>) -> Vec<u8> {
+    if rng.flip() {
+        octets[8..10].copy_from_slice(&[1, 0]);
+        return octets;
+    }
+    let length = rng.pick(&[0, 2, 9, 11]);
+    let control = [&layout::head(layout::CONTROL, length), &[0; 11][..length]].concat();
+    octets.splice(6..18, control);
+    octets[1] = (octets.len() - 2) as u8;
+    octets
 }
 
 /// A few calls at the other ports, refused or not.
@@ -90,6 +108,7 @@ fn started(rng: &mut XorShift, settings: &OwnedSettings) -> (Recorder, u8) {
             let mut list = sub_tlvs(seqno, ackno, rng.octet());
             list.remove(1 + rng.below(3) as usize);
             recorder.frame(port, &frame(&list)).unwrap();
+            refused(rng, &mut recorder, port);
         }
         match rng.below(3) {
             0 => drop(recorder.peer_gone(port).unwrap()),
@@ -113,16 +132,17 @@ fn pair(rng: &mut XorShift) -> Ends {
     Ends::new(started(rng, &a), started(rng, &b))
 }
 
+/// But for the marks, which a refused frame may have left on.
 fn dumps(ends: &Ends) -> [Vec<u8>; 2] {
-    ends.ends().map(|end| end.dump())
+    ends.ends().map(but_mark)
 }
 
 #[test]
-fn five_rounds_settle() {
+fn five_rounds_lead_to_agreement() {
     let seed = 0x2024_0001;
     println!("seed {seed:#x}");
     let mut rng = XorShift::new(seed);
-    let mut settled_after = [0u32; 6];
+    let mut agreed_after = [0u32; 6];
     let mut seen = [0u32; 10];
     let pairs = 200_000;
     for i in 0..pairs {
@@ -132,21 +152,21 @@ fn five_rounds_settle() {
             let whole = Round::whole(rng.below(2) as usize);
             ends.round_with(whole, between(&mut rng));
             assert!(ends.held_is_own(), "pair {i}");
-            if first.is_none() && ends.settled() {
+            if first.is_none() && ends.agreed() {
                 first = Some(round);
             }
         }
-        assert!(ends.settled(), "pair {i}: {ends:?}");
-        settled_after[first.unwrap()] += 1;
+        assert!(ends.agreed() && ends.ends().into_iter().all(settled), "pair {i}: {ends:?}");
+        agreed_after[first.unwrap()] += 1;
         for end in ends.ends() {
             reasons(end).iter().for_each(|&reason| seen[reason as usize] += 1);
         }
-        // What settled stays.
+        // What is agreed stays.
         let before = dumps(&ends);
         ends.round();
         assert_eq!(before, dumps(&ends), "pair {i}");
     }
-    println!("{pairs} pairs; settled after 1 to 5 rounds: {:?}", &settled_after[1..]);
+    println!("{pairs} pairs; agreed after 1 to 5 rounds: {:?}", &agreed_after[1..]);
     for reason in Reason::ALL {
         println!("{:8} {reason:?}", seen[reason as usize]);
     }
@@ -160,16 +180,16 @@ fn five_rounds_settle() {
     ] {
         assert!(seen[reason as usize] > 1000);
     }
-    assert!(settled_after[5] > 0);
+    assert!(agreed_after[5] > 0);
 }
 
 #[test]
-fn losses_leave_the_peers_own() {
+fn with_losses_settled_is_agreed_and_held_is_own() {
     let seed = 0x2024_0002;
     println!("seed {seed:#x}");
     let mut rng = XorShift::new(seed);
     let pairs = 100_000;
-    let mut held = 0u32;
+    let (mut held, mut settled_ends) = (0u32, 0u32);
     for i in 0..pairs {
         let mut ends = pair(&mut rng);
         for _ in 0..rng.below(12) {
@@ -180,16 +200,20 @@ fn losses_leave_the_peers_own() {
             };
             ends.round_with(round, between(&mut rng));
             assert!(ends.held_is_own(), "pair {i}: {ends:?}");
+            for end in (0..2).filter(|&end| settled(ends.end(end))) {
+                assert!(ends.agreed_at(end), "pair {i}: {ends:?}");
+                settled_ends += 1;
+            }
             held += ends.ends().map(|end| u32::from(end.flow().peer.is_some())).iter().sum::<u32>();
         }
-        // After the losses, rounds without any settle too.
+        // After the losses, rounds without any lead to agreement too.
         for _ in 0..5 {
             ends.round();
         }
-        assert!(ends.settled(), "pair {i}: {ends:?}");
+        assert!(ends.agreed(), "pair {i}: {ends:?}");
     }
-    println!("{pairs} pairs, flow control held {held} times");
-    assert!(held > pairs);
+    println!("{pairs} pairs, flow control held {held} times, {settled_ends} settled ends");
+    assert!(held > pairs && settled_ends > pairs);
 }
 
 /// One feature's kind: who advertises, the two Max, and whether rule 9 applies.
@@ -234,7 +258,7 @@ fn every_kind_of_settings() {
                     let mut ends = common::ends(&a, &b);
                     let rounds = (1..=5).find(|_| {
                         ends.round();
-                        ends.settled()
+                        ends.agreed()
                     });
                     after[rounds.expect("five rounds are enough")] += 1;
                     let before = dumps(&ends);
@@ -244,6 +268,6 @@ fn every_kind_of_settings() {
             }
         }
     }
-    println!("settled after 1 to 5 rounds: {:?}", &after[1..]);
+    println!("agreed after 1 to 5 rounds: {:?}", &after[1..]);
     assert!(after[5] > 0);
 }

@@ -40,8 +40,8 @@ changes-requires-2 c κs = search needs
 changes-requires-3 : tie.Need-changes-requires-3
 changes-requires-3 c κs = search needs
 
-duplicate-notice-requires : tie.Need-duplicate-notice-requires
-duplicate-notice-requires c κs = search needs
+newly-marked-requires : tie.Need-newly-marked-requires
+newly-marked-requires c κs = search needs
 
 notice-requires : tie.Need-notice-requires
 notice-requires c κs = search needs
@@ -58,7 +58,7 @@ returns c =
     (c .before .before .before .before .before .before .before .before .before .before .before .before .before .turn-of2 .ensures) (c .before .before .before .before .before .before .before .before .before .before .before .before .turn-of3 .ensures) (c .before .before .before .before .before .before .before .before .before .before .before .waits .ensures)
     (c .before .before .before .before .before .before .before .before .before .before .waits2 .ensures) (c .before .before .before .before .before .before .before .before .before .waits3 .ensures) (c .before .before .before .before .before .before .before .before .count .ensures)
     (c .before .before .before .before .before .before .before .same-control .ensures) (c .before .before .before .before .before .before .changes .ensures) (c .before .before .before .before .before .changes2 .ensures)
-    (c .before .before .before .before .changes3 .ensures) (c .before .before .before .duplicate-notice .ensures) (c .before .before .notice .ensures)
+    (c .before .before .before .before .changes3 .ensures) (c .before .before .before .newly-marked .ensures) (c .before .before .notice .ensures)
     (c .before .notice2 .ensures) (c .notice3 .ensures)
 
 pub decide-spec : {M : Type 1} → statement M
@@ -77,7 +77,7 @@ decide-spec =
     changes-requires
     changes-requires-2
     changes-requires-3
-    duplicate-notice-requires
+    newly-marked-requires
     notice-requires
     notice-requires-2
     notice-requires-3

@@ -10,8 +10,8 @@ admit-requires c κs = search needs
 enum-known-read : tie.Need-enum-known-read
 enum-known-read c = search needs
 
-refuse-requires : tie.Need-refuse-requires
-refuse-requires c κs = search needs
+reject-requires : tie.Need-reject-requires
+reject-requires c κs = search needs
 
 returns : tie.Need-returns
 returns c = search handle-refused
@@ -31,7 +31,7 @@ handle-spec =
     (tie.spec
     admit-requires
     enum-known-read
-    refuse-requires
+    reject-requires
     returns
     enum-known-read-2
     accept-requires

@@ -20,8 +20,8 @@ admit-requires c κs = search needs
 enum-known-read : tie.Need-enum-known-read
 enum-known-read c = search needs
 
-refuse-requires-2 : tie.Need-refuse-requires-2
-refuse-requires-2 c κs = search needs
+reject-requires : tie.Need-reject-requires
+reject-requires c κs = search needs
 
 returns-2 : tie.Need-returns-2
 returns-2 c = search changed-refused
@@ -44,7 +44,7 @@ handle-spec =
     returns
     admit-requires
     enum-known-read
-    refuse-requires-2
+    reject-requires
     returns-2
     enum-known-read-2
     accept-requires

@@ -211,7 +211,8 @@ fn show<'a>(number: u8, port: &Port, log: &Log, out: &'a mut Text) -> &'a mut Te
     out.field("ackno", control.ackno);
     out.field("rcvdackno", control.rcvdackno);
     out.field("seen", control.peer_seen);
-    out.field("duplicate", control.duplicate_control).put("\n");
+    out.field("duplicate", control.duplicate_control);
+    out.field("broken", control.broken_control).put("\n");
     show_feature(text::place_name(PRIORITY_GROUPS), port.groups(), out);
     show_feature(text::place_name(FLOW_CONTROL), port.flow(), out);
     show_feature(text::place_name(APPLICATIONS), port.applications(), out);

@@ -2,7 +2,7 @@
 
 use reference::events::OwnedSettings;
 use reference::layout::{APPLICATIONS, FLOW_CONTROL, PRIORITY_GROUPS};
-use reference::rounds::Ends;
+use reference::rounds::{settled, Ends};
 use reference::setup::{self, Failure};
 use reference::text::{self, Lines, Text};
 use reference::{Applications, Feature, FlowControl, Groups, Log, Port, Recorder};
@@ -12,15 +12,6 @@ use std::io;
 const ENOUGH: u32 = 5;
 /// Each end is this port of a recorder of its own.
 const PORT: u8 = 1;
-
-fn settled(port: &Port) -> bool {
-    let control = port.control();
-    control.peer_seen
-        && control.rcvdackno == control.seqno
-        && (PRIORITY_GROUPS..=APPLICATIONS)
-            .map(|feature| port.feature(feature))
-            .all(|feature| !feature.advertise || feature.syncd)
-}
 
 /// The priorities of a mask or map.
 fn priorities(mask: u8, out: &mut Text) {

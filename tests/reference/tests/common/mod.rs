@@ -1,10 +1,10 @@
 //! Helpers that the tests share.
 #![allow(dead_code)]
 
-use reference::events::{assemble, OwnedSetting, OwnedSettings};
+use reference::events::{assemble, Answer, Call, Event, OwnedSetting, OwnedSettings, FILL};
 use reference::layout::LONGEST_FRAME;
 use reference::rounds::Ends;
-use reference::{Flag, Log, Notice, Port, Reason, Recorder, Setting};
+use reference::{Flag, Log, Notice, Port, Reason, Recorder, Refusal, Setting};
 use std::ops::Deref;
 
 pub fn hex(text: &str) -> Vec<u8> {
@@ -275,4 +275,57 @@ pub struct Dropped {
     pub loser: u8,
     pub own: usize,
     pub tie: bool,
+}
+
+/// The broken control marks of the four ports.
+pub fn marks(recorder: &Recorder) -> [bool; 4] {
+    recorder.ports().each_ref().map(|port| port.control().broken_control)
+}
+
+/// A port's state without its mark.
+pub fn but_mark(port: &Port) -> Vec<u8> {
+    const MARK: usize = 16;
+    let mut octets = port.dump();
+    octets.remove(MARK);
+    octets
+}
+
+/// A call was refused. It left everything but what document 02, E1 names: the mark of the port
+/// where a frame is refused, and notice 1 with what a full log drops for it, which is given.
+pub fn left_by_refusal(
+    before: &Recorder,
+    call: &Call,
+    answer: &Answer,
+    after: &Recorder,
+) -> Option<Dropped> {
+    let but_marks = |recorder: &Recorder| recorder.ports().each_ref().map(but_mark);
+    assert_eq!(but_marks(before), but_marks(after), "{call:?}");
+    let (mut marks_due, mut log_due) = (marks(before), PlainLog::of(before.log()));
+    let (mut raised, mut dropped) = (Vec::new(), None);
+    if matches!(call.event, Event::Frame(_)) && answer.refusal != 16 {
+        let mark = &mut marks_due[usize::from(call.port) - 1];
+        let broken = matches!(answer.refusal, 7 | 8);
+        if broken && !*mark {
+            let notice = Notice { port: call.port, number: 1, feature: 0 };
+            raised.push(notice);
+            dropped = log_due.write(notice);
+        }
+        *mark = broken;
+    }
+    assert_eq!(marks(after), marks_due, "{call:?}");
+    assert_eq!(PlainLog::of(after.log()), log_due, "{call:?}");
+    assert_eq!(answer.raised, raised, "{call:?}");
+    assert_ne!(answer.refusal, 0);
+    assert!(!answer.wish && answer.length == 0 && answer.taken.is_none());
+    assert!(answer.output.iter().all(|&octet| octet == FILL));
+    dropped
+}
+
+/// Gives a port a frame that is refused, and leaves what a refusal leaves.
+pub fn refused_frame(recorder: &mut Recorder, port: u8, octets: &[u8]) -> Refusal {
+    let before = recorder.clone();
+    let call = Call { port, event: Event::Frame(octets.to_vec()) };
+    let answer = call.apply(recorder);
+    left_by_refusal(&before, &call, &answer, recorder);
+    Refusal { number: answer.refusal, place: answer.place }
 }

@@ -1,0 +1,179 @@
+//! What has occurred at the reference: engines are compared only where something happens.
+
+use compare::{Step, What};
+use reference::events::{Answer, Event};
+use reference::{Log, Notice, Port, Reason, Recorder};
+
+/// How often what has occurred.
+#[derive(Debug, Default)]
+pub struct Coverage {
+    /// 13 to 15 are not given yet.
+    refusals: [u32; 17],
+    /// Refusals 5 to 8, which have a place other than 0: at 6, the first, and later.
+    places: [[u32; 2]; 4],
+    /// By feature, then by reason.
+    became: [[u32; 10]; 3],
+    notices: [u32; 11],
+    broken_controls: BrokenControls,
+    dropped_by: DroppedBy,
+    /// A dropped count that stayed at its end, by port.
+    dropped_stayed: [u32; 4],
+    seqno_wrapped: u32,
+    featureseqno_wrapped: u32,
+    looks: u32,
+}
+
+/// What became of the broken control mark, and of notice 1.
+#[derive(Debug, Default)]
+struct BrokenControls {
+    /// By refusal: 7 and 8 where the mark was off, and where it kept the notice back.
+    raised: [u32; 2],
+    kept_back: [u32; 2],
+    /// Notice 1 found the log full.
+    dropped_one: u32,
+    /// The mark went off: by refusals 3 to 6, by a frame that was taken, by a fresh state.
+    cleared_by_refusal: [u32; 4],
+    cleared_by_frame: u32,
+    cleared_by_fresh_state: u32,
+    /// It was on, and another event left it.
+    left: u32,
+}
+
+impl BrokenControls {
+    fn note(&mut self, event: &Event, refusal: u8, before: &Port, after: &Port) {
+        let (was, is) = (before.control().broken_control, after.control().broken_control);
+        let is_frame = matches!(event, Event::Frame(_));
+        let count = match (refusal, was, is) {
+            (number @ 7..=8, false, true) => &mut self.raised[usize::from(number) - 7],
+            (number @ 7..=8, true, true) => &mut self.kept_back[usize::from(number) - 7],
+            (number @ 3..=6, true, false) => &mut self.cleared_by_refusal[usize::from(number) - 3],
+            (_, true, false) if is_frame => &mut self.cleared_by_frame,
+            (_, true, false) => &mut self.cleared_by_fresh_state,
+            (_, true, true) => &mut self.left,
+            _ => return,
+        };
+        *count += 1;
+    }
+
+    fn all_occurred(&self) -> bool {
+        let rest =
+            [self.dropped_one, self.cleared_by_frame, self.cleared_by_fresh_state, self.left];
+        let all = [&self.raised[..], &self.kept_back, &self.cleared_by_refusal, &rest];
+        all.concat().iter().all(|&count| count > 0)
+    }
+}
+
+/// Whose write found the log full.
+#[derive(Debug, Default)]
+struct DroppedBy {
+    holding_none: u32,
+    holding_fewer: u32,
+    holding_15: u32,
+    holding_16: u32,
+    holding_more: u32,
+    /// Where several others held most, by the port that lost one.
+    tie: [u32; 4],
+}
+
+impl DroppedBy {
+    /// The first notice that a port wrote in an event.
+    fn note(&mut self, before: &Log, writer: u8) {
+        let Some(loser) = before.loser(writer) else {
+            return;
+        };
+        let count = match before.held(writer) {
+            0 => &mut self.holding_none,
+            1..=14 => &mut self.holding_fewer,
+            15 => &mut self.holding_15,
+            16 => &mut self.holding_16,
+            _ => &mut self.holding_more,
+        };
+        *count += 1;
+        let most = (1..=4).filter(|&port| before.held(port) == before.held(loser)).count();
+        if before.held(writer) < 16 && most > 1 {
+            self.tie[usize::from(loser) - 1] += 1;
+        }
+    }
+
+    fn all_occurred(&self) -> bool {
+        // Port 4 is never the lowest of several.
+        let tie = &self.tie[..3];
+        [self.holding_none, self.holding_fewer, self.holding_15, self.holding_16]
+            .iter()
+            .chain([&self.holding_more])
+            .chain(tie)
+            .all(|&count| count > 0)
+    }
+}
+
+impl Coverage {
+    /// A step and its answer.
+    pub fn note(&mut self, step: &Step, answer: &Answer, before: &Recorder, after: &Recorder) {
+        self.note_refusal(answer);
+        self.looks += u32::from(step.what == What::Look);
+        if let (What::Event(event), Ok(was), Ok(is)) =
+            (&step.what, before.port(step.port), after.port(step.port))
+        {
+            self.note_port(was, is);
+            self.broken_controls.note(event, answer.refusal, was, is);
+            self.note_log(before.log(), &answer.raised);
+        }
+    }
+
+    fn note_refusal(&mut self, answer: &Answer) {
+        self.refusals[usize::from(answer.refusal)] += 1;
+        if let 5..=8 = answer.refusal {
+            let [first, later] = &mut self.places[usize::from(answer.refusal) - 5];
+            *first += u32::from(answer.place == 6);
+            *later += u32::from(answer.place > 6);
+        }
+    }
+
+    /// What an event did to its port.
+    fn note_port(&mut self, before: &Port, after: &Port) {
+        if before.control().seqno == u32::MAX && after.control().seqno == 0 {
+            self.seqno_wrapped += u32::from(after.control().rcvdackno == u32::MAX);
+        }
+        for (became, number) in self.became.iter_mut().zip(2..) {
+            let (was, is) = (before.feature(number), after.feature(number));
+            if was.reason != is.reason {
+                became[is.reason as usize] += 1;
+            }
+            let changed = was.featureseqno != is.featureseqno;
+            self.featureseqno_wrapped += u32::from(changed && is.featureseqno == 0);
+        }
+    }
+
+    /// What an event did to the log.
+    fn note_log(&mut self, before: &Log, raised: &[Notice]) {
+        for notice in raised {
+            self.notices[usize::from(notice.number)] += 1;
+        }
+        let Some(first) = raised.first() else {
+            return;
+        };
+        self.dropped_by.note(before, first.port);
+        if let Some(loser) = before.loser(first.port) {
+            let stayed = before.dropped(loser) == u32::MAX;
+            self.dropped_stayed[usize::from(loser) - 1] += u32::from(stayed);
+            self.broken_controls.dropped_one += u32::from(first.number == 1);
+        }
+    }
+
+    pub fn all_occurred(&self) {
+        for (number, &count) in self.refusals.iter().enumerate() {
+            assert_eq!(count > 0, !(13..16).contains(&number), "{self:#?}");
+        }
+        assert!(self.places.as_flattened().iter().all(|&count| count > 0), "{self:#?}");
+        assert!(self.notices[1..].iter().all(|&count| count > 0), "{self:#?}");
+        assert!(self.broken_controls.all_occurred(), "{self:#?}");
+        for reason in Reason::ALL {
+            let each = self.became.map(|counts| counts[reason as usize]);
+            assert!(each.iter().all(|&count| count > 0), "{reason:?} {self:#?}");
+        }
+        assert!(self.dropped_by.all_occurred(), "{self:#?}");
+        assert!(self.dropped_stayed.iter().all(|&count| count > 0), "{self:#?}");
+        let rare = [self.seqno_wrapped, self.featureseqno_wrapped, self.looks];
+        assert!(rare.iter().all(|&count| count > 0), "{self:#?}");
+    }
+}
