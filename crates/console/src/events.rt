@@ -1,6 +1,8 @@
 // Events at a port of a recorder, a line each, and their answers.
+use faults::Fault;
 use feature::Switches;
 use notices::Log;
+use parameters::Feature;
 use port::Answer;
 use port::Event;
 use port::Flag;
@@ -13,6 +15,9 @@ use script::Line;
 use script::PortWord;
 use tlv::Refusal;
 
+// The refusal of an invalid setting (01, Refusal numbers).
+const INVALID: u8 = 9;
+
 // What an event leaves: the port at hand and the log, and the place behind its answer.
 pub struct Step {
     pub port: Port,
@@ -20,21 +25,23 @@ pub struct Step {
     pub at: usize,
 }
 
-fn answer(out: &mut [u8], at: usize, a: Answer) -> usize {
+// The first line of an answer, behind which so many notice lines follow.
+fn first_line(out: &mut [u8], at: usize, a: Answer, follow: u8) -> usize {
     match a {
-        Answer::Refused(r, place) => report::answers::refused_at(out, at, r, place),
-        Answer::Done(send) => report::answers::done(out, at, send),
+        Answer::Refused(r, place) => report::answers::refused_at(out, at, r, place, follow),
+        Answer::Done(send) => report::answers::done(out, at, send, follow),
     }
 }
 
 // The answer, and the notices that the event raised.
 pub fn answered(out: &mut [u8], at: usize, w: PortWord, e: Event) -> usize {
-    let said = e.answer;
-    let behind = answer(out, at, said);
-    let end = report::answers::raised(out, behind, e.notices);
-    if end == behind {
-        return end;
+    let answer = e.answer;
+    let follow = report::answers::raised_count(e.notices);
+    let behind = first_line(out, at, answer, follow);
+    if follow == 0 {
+        return behind;
     }
+    let end = report::answers::raised(out, behind, e.notices);
     report::ports::others(out, at, end, w.given, w.number)
 }
 
@@ -91,6 +98,42 @@ fn changed(out: &mut [u8], at: usize, w: PortWord, l: Log, e: Event) -> Step {
     }
 }
 
+fn is_invalid(a: Answer) -> bool {
+    match a {
+        Answer::Refused(r, _) => tlv::refusal_number(r) == INVALID,
+        Answer::Done(_) => false,
+    }
+}
+
+// The feature with a number; any other number is refused before its parameters are looked at.
+fn feature_of(number: u8) -> Feature {
+    if number == 2 {
+        return Feature::Groups;
+    }
+    if number == 3 {
+        return Feature::Flow;
+    }
+    Feature::Applications
+}
+
+fn fault(number: u8, l: Line) -> Fault {
+    faults::fault_of(feature_of(number), octets::first(&l.octets, l.n))
+}
+
+// A setting change. Its refusal says why the setting is invalid.
+fn set(out: &mut [u8], at: usize, w: PortWord, p: Port, l: Log, number: u8, line: Line) -> Step {
+    let e = change(w.number, p, line);
+    let answer = e.answer;
+    if is_invalid(answer) {
+        return Step {
+            port: p,
+            log: l,
+            at: report::errors::invalid(out, at, fault(number, line)),
+        };
+    }
+    changed(out, at, w, l, e)
+}
+
 fn taken(out: &mut [u8], at: usize, x: Took) -> usize {
     match x {
         Took::Notice(n) => report::answers::notice(out, at, n),
@@ -145,7 +188,8 @@ fn tell(out: &mut [u8], at: usize, w: PortWord, p: Port, l: Log, number: u64, k:
     match k {
         Kind::Write(room) => write(out, at, w.number, p, room),
         Kind::Show => show(out, at, w, p, l),
-        _ => report::answers::unread(out, at, number),
+        Kind::Unreadable(why) => report::errors::unread(out, at, false, number, w.given, why),
+        _ => at,
     }
 }
 
@@ -171,7 +215,11 @@ pub fn event(
     let kind = line.kind;
     match kind {
         Kind::Take => take(out, at, w.number, p, l),
-        Kind::Frame | Kind::Gone | Kind::Flag(_, _) | Kind::Setting { .. } => {
+        Kind::Setting {
+            number: feature,
+            ..
+        } => set(out, at, w, p, l, feature, line),
+        Kind::Frame | Kind::Gone | Kind::Flag(_, _) => {
             changed(out, at, w, l, change(w.number, p, line))
         }
         _ => Step {

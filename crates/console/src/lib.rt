@@ -1,8 +1,9 @@
-// Lines of standard input, and the settings that stand in them. The caller lends the buffer.
+// Lines of an input, and the settings that stand in them. The caller lends the buffer.
 ghost use mathlib.Core.Path.{_≡_};
 ghost use Prim.Native.Nat.{_+_, _-_, _≤_};
 ghost use lib.ListN.{length};
 
+pub mod arguments;
 pub mod events;
 pub mod settings;
 
@@ -12,7 +13,8 @@ const LINE_FEED: u8 = 10;
 const KEPT: usize = 4096;
 
 // Where the reading stands: the buffer holds octets up to `end`, those before `next` are done with, and the line that was
-// found last stands from `from` to `to`. `number` counts the lines.
+// found last stands from `from` to `to`. `number` counts the lines. No more is read where `open` is false: the input is at its
+// end, or a read of its descriptor `fd` has failed.
 pub struct Lines {
     pub number: u64,
     pub found: bool,
@@ -21,10 +23,12 @@ pub struct Lines {
     pub next: usize,
     pub end: usize,
     pub open: bool,
+    pub failed: bool,
+    pub fd: i32,
 }
 
 // Nothing is read yet.
-pub fn start() -> Lines {
+pub fn start(fd: i32) -> Lines {
     Lines {
         number: 0,
         found: false,
@@ -33,6 +37,8 @@ pub fn start() -> Lines {
         next: 0,
         end: 0,
         open: true,
+        failed: false,
+        fd: fd,
     }
 }
 
@@ -96,7 +102,8 @@ fn nothing_found(l: Lines) -> Lines {
     next
 }
 
-// Looks for the next line among the octets that are held. The last line may lack its line feed.
+// Looks for the next line among the octets that are held. The last line may lack its line feed, but behind a read that failed
+// it is not known to be whole, and is not found.
 pub fn seek(buffer: &[u8], l: Lines) -> Lines {
     let next = l.next;
     let rest = held(buffer, next, l.end);
@@ -110,9 +117,11 @@ pub fn seek(buffer: &[u8], l: Lines) -> Lines {
             next: next + n + 1,
             end: l.end,
             open: l.open,
+            failed: l.failed,
+            fd: l.fd,
         };
     }
-    if l.open {
+    if l.open | l.failed {
         return nothing_found(l);
     }
     if n == 0 {
@@ -126,6 +135,8 @@ pub fn seek(buffer: &[u8], l: Lines) -> Lines {
         next: next + n,
         end: l.end,
         open: false,
+        failed: false,
+        fd: l.fd,
     }
 }
 
@@ -142,6 +153,8 @@ pub fn put_back(l: Lines) -> Lines {
         next: l.from,
         end: l.end,
         open: l.open,
+        failed: l.failed,
+        fd: l.fd,
     }
 }
 
@@ -158,22 +171,20 @@ fn shift(buffer: &mut [u8], next: usize, n: usize) {
     }
 }
 
-// One read of standard input.
-fn read_once(part: &mut [u8]) -> usize
-    ensures { λ r. ⌜ r ≤ length (now (part .entry)) ⌝ }
-{
-    let got = libc::read(0, part);
-    io::count(got, part)
-}
-
-// What is left of the buffer behind `kept` octets is filled by one read.
-fn read_behind(buffer: &mut [u8], kept: usize) -> usize
-    ensures { λ r. ⌜ r ≤ length (now (buffer .entry)) ⌝ }
-{
+// What is left of the buffer behind `kept` octets is filled by one read, whose answer is given.
+fn read_behind(fd: i32, buffer: &mut [u8], kept: usize) -> isize {
     if kept < buffer.len() {
-        return read_once(&mut buffer[kept..]);
+        return libc::read(fd, &mut buffer[kept..]);
     }
     0
+}
+
+// Whether a signal interrupted a read before it gave anything.
+fn is_interrupted(got: isize) -> bool {
+    if 0 <= got {
+        return false;
+    }
+    os::errno() == libc::EINTR
 }
 
 // How many octets are kept: all that are held, but of a line that fills the buffer only its front.
@@ -189,20 +200,23 @@ fn kept(n: usize, room: usize) -> usize
     n
 }
 
-// Reads once more. A read that gives nothing is the end of the input.
+// Reads once more. A read that gives nothing is the end of the input, one that a signal interrupts is tried again.
 fn more(buffer: &mut [u8], l: Lines) -> Lines {
     let n = held(buffer, l.next, l.end).len();
     shift(buffer, l.next, n);
     let old = kept(n, buffer.len());
-    let new = read_behind(buffer, old);
+    let got = read_behind(l.fd, buffer, old);
+    let again = is_interrupted(got);
     Lines {
         number: l.number,
         found: false,
         from: 0,
         to: 0,
         next: 0,
-        end: old + new,
-        open: 0 < new,
+        end: old + io::count(got, buffer),
+        open: (0 < got) | again,
+        failed: (got < 0) & !again,
+        fd: l.fd,
     }
 }
 

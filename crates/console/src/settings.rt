@@ -1,5 +1,6 @@
 // The settings of ports, four lines each, which make a recorder.
 use crate::Lines;
+use faults::Fault;
 use feature::Switches;
 use parameters::Feature;
 use port::Answer;
@@ -11,6 +12,7 @@ use script::Kind;
 use script::Line;
 use script::Part;
 use script::PortWord;
+use script::Unread;
 
 // A setting, with the number of its line.
 pub struct Setting {
@@ -21,16 +23,18 @@ pub struct Setting {
     pub octets: [u8; 513],
 }
 
-// What a control line says: its port and the highest version; with the number of the line.
+// What a control line says: its port, and whether it begins with it, and the highest version; with the number of the line.
 pub struct Head {
     pub number: u64,
+    pub given: bool,
     pub port: u8,
     pub max: u8,
 }
 
-// The settings of a port. Where `good` is false the line that was due cannot be read, or the input ended before it.
+// The settings of a port. Where `good` is false the line that is `due` cannot be read, or the input ended before it.
 pub struct Settings {
     pub good: bool,
+    pub due: Part,
     pub lines: Lines,
     pub control: Head,
     pub groups: Setting,
@@ -41,22 +45,26 @@ pub struct Settings {
 // A line of the settings, and its port; where `good` is false it cannot be read, or is missing.
 struct Read {
     good: bool,
+    due: Part,
     lines: Lines,
+    given: bool,
     port: u8,
     setting: Setting,
 }
 
-// What is wrong with the settings: the line that cannot be read, with refusal 0, or that is refused; line 0 where nothing is.
-pub struct Wrong {
+// A line whose setting is invalid, and why; line 0 where there is none.
+pub struct Invalid {
     pub line: u64,
-    pub refusal: u8,
+    pub why: Fault,
 }
 
-// The recorder that the settings make, if nothing is wrong with them; behind them the events begin.
+// The recorder that the settings make, if they are `good`; behind them the events begin. The output holds the answers to its
+// creation, or what is wrong with the settings, up to `at`.
 pub struct Start {
+    pub good: bool,
     pub recorder: Recorder,
     pub lines: Lines,
-    pub wrong: Wrong,
+    pub at: usize,
 }
 
 fn switches(advertise: bool, enable: bool, willing: bool) -> Switches {
@@ -95,7 +103,7 @@ fn setting_on(number: u64, l: Line) -> Setting {
 
 fn is_read(k: Kind) -> bool {
     match k {
-        Kind::Unreadable => false,
+        Kind::Unreadable(_) => false,
         _ => true,
     }
 }
@@ -120,7 +128,9 @@ fn read_setting(buffer: &mut [u8], l: Lines, due: Part, ports: bool) -> Read {
     let kind = said.kind;
     Read {
         good: lines.found & is_read(kind),
+        due: due,
         lines: lines,
+        given: w.given,
         port: w.number,
         setting: setting_on(lines.number, said),
     }
@@ -140,6 +150,7 @@ fn head_of(r: Read) -> Head {
     let s = r.setting;
     Head {
         number: s.number,
+        given: r.given,
         port: r.port,
         max: s.max,
     }
@@ -150,8 +161,10 @@ fn settings_of(control: Head, groups: Read, flow: Read, applications: Read) -> S
     let w = flow.setting;
     let a = applications.setting;
     let lines = applications.lines;
+    let due = applications.due;
     Settings {
         good: applications.good,
+        due: due,
         lines: lines,
         control: control,
         groups: g,
@@ -175,34 +188,34 @@ pub fn read_port(buffer: &mut [u8], l: Lines, ports: bool) -> Settings {
     read_rest(buffer, head, groups, ports)
 }
 
-// The number of the line that cannot be read; of a line that is missing, one more than there are.
-pub fn unread_line(l: Lines) -> u64 {
-    if l.found {
-        return l.number;
+fn fault(f: Feature, s: Setting) -> Fault {
+    faults::fault_of(f, octets::first(&s.octets, s.n))
+}
+
+fn invalid_at(line: u64, why: Fault) -> Invalid {
+    match why {
+        Fault::None => Invalid { line: 0, why: why },
+        _ => Invalid {
+            line: line,
+            why: why,
+        },
     }
-    std::num::wrapping_add_u64(l.number, 1)
 }
 
-fn is_valid(f: Feature, s: Setting) -> bool {
-    let o = s.octets;
-    parameters::valid_local(f, octets::first(&o, s.n))
-}
-
-// The number of the first line whose setting is invalid, and 0 where all are valid.
-pub fn invalid_line(s: Settings) -> u64 {
+// The first line whose setting is invalid.
+pub fn first_invalid(s: Settings) -> Invalid {
     let g = s.groups;
     let w = s.flow;
     let a = s.applications;
-    if !is_valid(Feature::Groups, g) {
-        return g.number;
+    let first = invalid_at(g.number, fault(Feature::Groups, g));
+    if first.line != 0 {
+        return first;
     }
-    if !is_valid(Feature::Flow, w) {
-        return w.number;
+    let second = invalid_at(w.number, fault(Feature::Flow, w));
+    if second.line != 0 {
+        return second;
     }
-    if !is_valid(Feature::Applications, a) {
-        return a.number;
-    }
-    0
+    invalid_at(a.number, fault(Feature::Applications, a))
 }
 
 // Creates the port of the settings in the place of `p`.
@@ -230,47 +243,111 @@ pub fn create(p: Port, s: Settings) -> Event {
     )
 }
 
-// The number of the line that is not the one due, and 0 where all four are: the first one where the port's settings come `again`.
-fn undue_line(s: Settings, again: bool) -> u64 {
+fn is_control(p: Part) -> bool {
+    match p {
+        Part::Control => true,
+        _ => false,
+    }
+}
+
+// The word of a line that is not what is due, and 0 where it is the line as a whole that cannot be read, or none is.
+fn undue_word(k: Kind) -> usize {
+    match k {
+        Kind::Unreadable(why) => match why {
+            Unread::Word(n, _) => n,
+            _ => 0,
+        },
+        _ => 0,
+    }
+}
+
+fn unread(out: &mut [u8], line: u64, port: bool, k: Kind) -> usize {
+    match k {
+        Kind::Unreadable(why) => report::errors::unread(out, 0, true, line, port, why),
+        _ => 0,
+    }
+}
+
+// What the line says that was found last, read as the one that is due.
+fn kind_of(due: Part, line: &[u8], given: bool) -> Kind {
+    let l = script::parse_setting(due, script::behind_port(line, given));
+    l.kind
+}
+
+// Puts what is wrong with a line that was found: of a line that is no whole one its form, then its port, then its words.
+fn undue_line(out: &mut [u8], line: &[u8], s: Settings, ports: bool, again: bool) -> usize {
+    let lines = s.lines;
     let c = s.control;
-    if again {
-        return c.number;
+    let due = s.due;
+    let w = port_of(line, ports);
+    let kind = kind_of(due, line, w.given);
+    let word = undue_word(kind);
+    if !is_read(kind) & (word == 0) {
+        return unread(out, lines.number, w.given, kind);
     }
-    if s.good {
-        return 0;
+    if !is_control(due) & (w.number != c.port) {
+        return report::errors::port_due(out, 0, lines.number, c.port);
     }
-    unread_line(s.lines)
+    if again & (word != 1) {
+        return report::errors::another_due(out, 0, lines.number);
+    }
+    unread(out, lines.number, w.given, kind)
 }
 
-// The number of a refusal, and 0 for none.
-fn refusal_of(a: Answer) -> u8 {
-    match a {
-        Answer::Done(_) => 0,
-        Answer::Refused(why, _) => tlv::refusal_number(why),
+// Puts which line of a port's settings is not the one due, and what is; `again` says that the port had its settings before.
+pub fn undue(out: &mut [u8], buffer: &[u8], s: Settings, ports: bool, again: bool) -> usize {
+    let lines = s.lines;
+    let c = s.control;
+    let due = s.due;
+    if again & !is_control(due) {
+        return report::errors::another_due(out, 0, c.number);
     }
+    if !lines.found {
+        let behind = std::num::wrapping_add_u64(lines.number, 1);
+        return report::errors::missing(out, 0, behind, script::part_name(due));
+    }
+    undue_line(out, crate::line(buffer, lines), s, ports, again)
 }
 
-// The line of a port's settings that is refused: its first where no port has its number.
-fn refused_line(s: Settings, refusal: u8) -> u64 {
+// Puts that a line's setting is invalid, and why.
+pub fn refuse(out: &mut [u8], x: Invalid) -> usize {
+    let why = x.why;
+    report::errors::invalid_setting(out, 0, x.line, why)
+}
+
+// Puts which line of a port's settings is refused: its first where no port has its number.
+fn refused(out: &mut [u8], s: Settings, refusal: u8) -> usize {
     let c = s.control;
     if refusal == 16 {
-        return c.number;
+        return report::answers::refused_setting(out, 0, c.number, refusal);
     }
-    invalid_line(s)
+    refuse(out, first_invalid(s))
 }
 
-// What is wrong after a port's creation was answered; what was wrong before stays.
-fn wrong_behind(w: Wrong, s: Settings, a: Answer) -> Wrong {
-    let refusal = refusal_of(a);
-    if refusal == 0 {
-        return w;
+// What is told of the settings: whether all is good so far, and the place behind it.
+struct Told {
+    good: bool,
+    at: usize,
+}
+
+// The answer to a port's creation, which raises no notice; or its refusal, which is all that is told where a line was refused.
+fn created(out: &mut [u8], before: Told, s: Settings, a: Answer) -> Told {
+    let c = s.control;
+    if !before.good {
+        return before;
     }
-    if w.line != 0 {
-        return w;
-    }
-    Wrong {
-        line: refused_line(s, refusal),
-        refusal: refusal,
+    match a {
+        Answer::Refused(why, _) => Told {
+            good: false,
+            at: refused(out, s, tlv::refusal_number(why)),
+        },
+        Answer::Done(send) => {
+            let behind = report::ports::first(out, before.at, c.given, c.port);
+            Told {
+                good: true,
+                at: report::answers::done(out, behind, send, 0),
+            }
+        }
     }
 }
 
@@ -280,35 +357,34 @@ struct Ahead {
     lines: Lines,
 }
 
-fn look_ahead(buffer: &mut [u8], l: Lines) -> Ahead {
+// Where settings stand alone, no line behind them is an event.
+fn look_ahead(buffer: &mut [u8], l: Lines, alone: bool) -> Ahead {
     let lines = crate::next_line(buffer, l);
     let more = script::begins_settings(crate::line(buffer, lines));
     Ahead {
-        more: lines.found & more,
+        more: lines.found & (alone | more),
         lines: crate::put_back(lines),
     }
 }
 
-// Reads the settings of ports and creates them. A port comes once, so 257 turns are enough.
-pub fn read_recorder(buffer: &mut [u8], l: Lines) -> Start {
+// Reads the settings of ports, creates them and puts the answers. A port comes once, so 257 turns are enough.
+pub fn read_recorder(buffer: &mut [u8], out: &mut [u8], l: Lines, alone: bool) -> Start {
     let mut made = recorder::blank();
     let mut seen = [false; 256];
-    let mut wrong = Wrong {
-        line: 0,
-        refusal: 0,
-    };
+    let mut told = Told { good: true, at: 0 };
     let mut lines = l;
     let mut turns: usize = 257;
     while 0 < turns {
         turns -= 1;
         let s = read_port(buffer, lines, true);
+        lines = s.lines;
         let c = s.control;
         let n = octets::wide(c.port);
-        let undue = undue_line(s, seen[n]);
-        if undue != 0 {
-            wrong = Wrong {
-                line: undue,
-                refusal: 0,
+        let again = seen[n];
+        if again | !s.good {
+            told = Told {
+                good: false,
+                at: undue(out, buffer, s, true, again),
             };
             break;
         }
@@ -317,16 +393,17 @@ pub fn read_recorder(buffer: &mut [u8], l: Lines) -> Start {
         let e = create(made.ports[i], s);
         let answer = e.answer;
         made = recorder::store(made, c.port, e);
-        wrong = wrong_behind(wrong, s, answer);
-        let ahead = look_ahead(buffer, s.lines);
+        told = created(out, told, s, answer);
+        let ahead = look_ahead(buffer, lines, alone);
         lines = ahead.lines;
         if !ahead.more {
             break;
         }
     }
     Start {
+        good: told.good,
         recorder: made,
         lines: lines,
-        wrong: wrong,
+        at: told.at,
     }
 }

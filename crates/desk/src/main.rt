@@ -1,26 +1,28 @@
 // The desk: the settings of one to four ports, then events, one a line, each answered before the next is read (docs/FORMATS.md).
 use console::Lines;
-use console::settings::Wrong;
+use console::arguments::Source;
 use recorder::Recorder;
 
 // What an answer may take of the output; the longest, of `show`, is shorter.
 const ROOM: usize = 16384;
 
-// Writes out what stands before `at`.
-fn flush(output: &[u8], at: usize) {
-    io::write_all(1, octets::first(output, at));
+// Writes octets to standard output, and where that fails says so on standard error.
+fn write(s: &[u8]) -> bool {
+    if io::write_all(libc::STDOUT_FILENO, s) {
+        return true;
+    }
+    io::write_all(libc::STDERR_FILENO, b"desk: cannot write\n");
+    false
 }
 
-// Where the next answer goes: at the front again, once the output is nearly full.
-fn placed(output: &[u8], at: usize) -> usize {
-    if output.len() < ROOM {
-        return at;
-    }
-    if at <= output.len() - ROOM {
-        return at;
-    }
-    flush(output, at);
-    0
+// Writes out what stands before `at`.
+fn flush(output: &[u8], at: usize) -> bool {
+    write(octets::first(output, at))
+}
+
+// Says on standard error that a read has failed.
+fn cannot_read() {
+    io::write_all(libc::STDERR_FILENO, b"desk: cannot read\n");
 }
 
 // The line that was found, and where its answer goes.
@@ -29,29 +31,61 @@ struct Place {
     at: usize,
 }
 
-// The next line. The output is written out before each read.
-fn next(input: &mut [u8], output: &[u8], l: Lines, at: usize) -> Place {
-    let lines = console::seek(input, l);
-    if lines.found {
+// Whether the output, of `all` octets, has no room for an answer behind `at`.
+fn is_full(all: usize, at: usize) -> bool {
+    if all < ROOM {
+        return false;
+    }
+    all - ROOM < at
+}
+
+// The place of an answer: at the front again, once the output is full. What cannot be written ends the lines.
+fn placed(output: &[u8], l: Lines, at: usize) -> Place {
+    let mut lines = l;
+    if !is_full(output.len(), at) {
         return Place {
             lines: lines,
-            at: placed(output, at),
+            at: at,
         };
     }
-    flush(output, at);
+    lines.found = flush(output, at);
     Place {
-        lines: console::fetch(input, lines),
+        lines: lines,
         at: 0,
     }
 }
 
-// The events, to the end of the input. The recorder stays where it is: of an event only the port at hand moves, and the log.
-// A frame, as most lines are, goes its own way, on which the log moves only where a notice was raised. A proved loop ends: it
-// counts its turns down, from a number that no run uses up.
-fn run(input: &mut [u8], output: &mut [u8], start: Recorder, first: Lines) {
+// Reads on until a line is found. The output is written out before each read.
+fn read_on(input: &mut [u8], output: &[u8], l: Lines, at: usize) -> Lines {
+    if !flush(output, at) {
+        return l;
+    }
+    let lines = console::fetch(input, l);
+    if lines.failed {
+        cannot_read();
+    }
+    lines
+}
+
+// The next line, if there is one.
+fn next(input: &mut [u8], output: &[u8], l: Lines, at: usize) -> Place {
+    let lines = console::seek(input, l);
+    if lines.found {
+        return placed(output, lines, at);
+    }
+    Place {
+        lines: read_on(input, output, lines, at),
+        at: 0,
+    }
+}
+
+// The events, to the end of the input; what stands in the output before `behind` is written out first. The recorder stays where
+// it is: of an event only the port at hand moves, and the log. A frame, as most lines are, goes its own way, on which the log
+// moves only where a notice was raised. A proved loop ends: it counts its turns down, from a number that no run uses up.
+fn run(input: &mut [u8], output: &mut [u8], start: Recorder, first: Lines, behind: usize) {
     let mut held = start;
     let mut lines = first;
-    let mut at = 0;
+    let mut at = behind;
     let mut turns = u64::MAX;
     while 0 < turns {
         turns -= 1;
@@ -93,25 +127,71 @@ fn run(input: &mut [u8], output: &mut [u8], start: Recorder, first: Lines) {
     }
 }
 
-// Puts what is wrong with the settings, if anything is, and gives the place behind it.
-fn complain(output: &mut [u8], w: Wrong) -> usize {
-    if w.line == 0 {
-        return 0;
+// Where the events begin: behind the settings, or where these stand alone in a file, in standard input.
+fn events(l: Lines, alone: bool) -> Lines {
+    if !alone {
+        return l;
     }
-    if w.refusal == 0 {
-        return report::answers::unread_setting(output, 0, w.line);
+    libc::close(l.fd);
+    console::start(libc::STDIN_FILENO)
+}
+
+// Reads the settings from a descriptor, and if nothing is wrong with them runs the events.
+fn serve(input: &mut [u8], output: &mut [u8], fd: i32, alone: bool) {
+    let s = console::settings::read_recorder(input, output, console::start(fd), alone);
+    let lines = s.lines;
+    if lines.failed {
+        cannot_read();
+        return;
     }
-    report::answers::refused_setting(output, 0, w.line, w.refusal)
+    if !s.good {
+        flush(output, s.at);
+        return;
+    }
+    run(input, output, s.recorder, events(lines, alone), s.at);
+}
+
+// Writes that the settings cannot be had.
+fn report_unopened(output: &mut [u8], file: &[u8]) {
+    let at = report::answers::unopened(output, 0, file);
+    flush(output, at);
+}
+
+// Writes the usage, to standard output where help was asked for, and otherwise to standard error.
+fn usage(asked: bool) {
+    let text = b"usage: desk [FILE]
+
+Runs a recorder of one to four ports: first their settings, then events, one a
+line, each answered. With FILE the settings are read from it and the events from
+standard input; without it both are read from standard input.
+
+Example:
+control max 0
+groups max 0 advertise 1 enable 1 willing 0 priorities 0 0 0 1 0 0 0 0 percentages 50 50 0 0 0 0 0 0 classes 2
+flow max 0 advertise 1 enable 1 willing 0 mask 08 classes 8
+applications max 0 advertise 1 enable 1 willing 0 ethertype 8906 08
+write 147
+show
+
+docs/FORMATS.md describes all lines and answers.
+";
+    if asked {
+        write(text);
+        return;
+    }
+    io::write_all(libc::STDERR_FILENO, text);
 }
 
 fn main() {
+    let mut name = io::buffer();
     let mut input = io::large_buffer();
     let mut output = io::large_buffer();
-    let s = console::settings::read_recorder(&mut input, console::start());
-    let wrong = complain(&mut output, s.wrong);
-    if wrong != 0 {
-        flush(&output, wrong);
-        return;
+    let source = console::arguments::asked(&mut name);
+    match source {
+        Source::Input => serve(&mut input, &mut output, libc::STDIN_FILENO, false),
+        Source::File(fd) => serve(&mut input, &mut output, fd, true),
+        Source::Unopened(n) => report_unopened(&mut output, octets::first(&name, n)),
+        Source::Help => usage(true),
+        Source::Unknown => usage(false),
     }
-    run(&mut input, &mut output, s.recorder, s.lines);
 }

@@ -1,9 +1,12 @@
 // Will two ends agree? Reads the settings of A and of B, runs rounds until both ends are settled, and reports (docs/FORMATS.md).
+use console::Lines;
+use console::arguments::Source;
 use console::settings::Settings;
 use exchange::Pair;
 use feature::State;
 use notices::Log;
 use parameters::Feature;
+use parameters::Parameters;
 use port::Port;
 
 // Five rounds are always enough (01, Rounds of two ends).
@@ -11,9 +14,6 @@ const ROUNDS: u64 = 5;
 
 // The number of the port at each end.
 const PORT: u8 = 1;
-
-// The refusal of an invalid setting (01, Refusal numbers).
-const INVALID: u8 = 9;
 
 // Two ends of a cable after so many rounds, each with a log of its own.
 struct Ends {
@@ -74,48 +74,104 @@ fn settle(a: Port, b: Port) -> Ends {
     ends
 }
 
-// An end advertises a feature, and its mode is false.
-fn is_open(x: State) -> bool {
+// What came of a feature between two ends: `open` if it is exchanged and not agreed, 0 or 1; the ends that do not advertise it,
+// 0 for none, 1 for A, 2 for B, 3 for both; of such a feature whether what the ends run fits, 1 or 2, and of others 0.
+struct Told {
+    open: u64,
+    silent: u64,
+    fit: u64,
+}
+
+fn silent_ends(a: bool, b: bool) -> u64 {
+    if a & b {
+        return 0;
+    }
+    if b {
+        return 1;
+    }
+    if a {
+        return 2;
+    }
+    3
+}
+
+fn is_compatible(f: Feature, p: Parameters, q: Parameters) -> bool {
+    let x = octets::first(&p.octets, octets::wide(p.length));
+    let y = octets::first(&q.octets, octets::wide(q.length));
+    parameters::compatible(f, x, y)
+}
+
+fn fit(silent: u64, compatible: bool) -> u64 {
+    if silent == 0 {
+        return 0;
+    }
+    if compatible {
+        return 2;
+    }
+    1
+}
+
+fn outcome(f: Feature, x: State, y: State) -> Told {
     let s = x.setting;
+    let t = y.setting;
     let o = x.outcome;
-    s.advertise & !o.mode
-}
-
-// The features that are not in force at an end that advertises them.
-struct Open {
-    groups: bool,
-    flow: bool,
-    applications: bool,
-}
-
-fn open_features(p: Port) -> Open {
-    Open {
-        groups: is_open(p.groups),
-        flow: is_open(p.flow),
-        applications: is_open(p.applications),
+    let q = y.outcome;
+    let silent = silent_ends(s.advertise, t.advertise);
+    let fits = is_compatible(f, feature::configuration(x), feature::configuration(y));
+    Told {
+        open: ((silent == 0) & !(o.mode & q.mode)) as u64,
+        silent: silent,
+        fit: fit(silent, fits),
     }
 }
 
-// `agreed after N rounds`, or `not agreed after N rounds: FEATURES`
-fn verdict(out: &mut [u8], at: usize, rounds: u64, a: Open, b: Open) -> usize {
-    let groups = a.groups | b.groups;
-    let flow = a.flow | b.flow;
-    let applications = a.applications | b.applications;
-    let any = groups | flow | applications;
+// The first words: 0 agreed, 1 not agreed, 2 not exchanged.
+fn verdict(open: bool, silent: bool) -> u64 {
+    if open {
+        return 1;
+    }
+    if silent {
+        return 2;
+    }
+    0
+}
+
+// `agreed after N rounds`, `not agreed after N rounds: FEATURES`, and behind it or alone the features that are not exchanged
+fn first_line(out: &mut [u8], rounds: u64, g: Told, w: Told, a: Told) -> usize {
+    let open = (g.open | w.open | a.open) != 0;
+    let silent = (g.silent | w.silent | a.silent) != 0;
+    let word = verdict(open, silent);
     let numbers = [
-        any as u64,
+        word,
         rounds,
-        any as u64,
-        groups as u64,
-        flow as u64,
-        applications as u64,
+        word,
+        g.open,
+        w.open,
+        a.open,
+        (open & silent) as u64,
+        g.silent,
+        g.fit,
+        ((g.silent != 0) & ((w.silent | a.silent) != 0)) as u64,
+        w.silent,
+        w.fit,
+        ((w.silent != 0) & (a.silent != 0)) as u64,
+        a.silent,
+        a.fit,
     ];
     report::forms::put(
         out,
-        at,
-        b"[|not ]agreed after # rounds[|:][| groups][| flow][| applications]\n",
+        0,
+        b"[agreed|not agreed|not exchanged] after # rounds[|:|:][| groups][| flow][| applications][|; not exchanged:][| groups at A| groups at B| groups at A and B][| (does not fit)| (fits)][|,][| flow at A| flow at B| flow at A and B][| (does not fit)| (fits)][|,][| applications at A| applications at B| applications at A and B][| (does not fit)| (fits)]\n",
         &numbers,
     )
+}
+
+// The first line on two ends.
+fn compare(out: &mut [u8], rounds: u64, a: Port, b: Port) -> usize {
+    let groups = outcome(Feature::Groups, a.groups, b.groups);
+    let flow = outcome(Feature::Flow, a.flow, b.flow);
+    let applications = outcome(Feature::Applications, a.applications, b.applications);
+    first_line(out, rounds, groups, flow, applications)
 }
 
 fn control_line(out: &mut [u8], at: usize, name: &[u8], version: u8) -> usize {
@@ -128,21 +184,15 @@ fn control_line(out: &mut [u8], at: usize, name: &[u8], version: u8) -> usize {
 fn end_lines(out: &mut [u8], at: usize, name: &[u8], p: Port, l: Log) -> usize {
     let k = p.control;
     let a = control_line(out, at, name, k.oper);
-    let b = report::configurations::feature_line(out, a, name, Feature::Groups, p.groups);
-    let d = report::configurations::feature_line(out, b, name, Feature::Flow, p.flow);
-    let e = report::configurations::feature_line(
-        out,
-        d,
-        name,
-        Feature::Applications,
-        p.applications,
-    );
+    let b = report::states::feature_line(out, a, name, Feature::Groups, p.groups);
+    let d = report::states::feature_line(out, b, name, Feature::Flow, p.flow);
+    let e = report::states::feature_line(out, d, name, Feature::Applications, p.applications);
     report::states::notice_lines(out, e, name, l, PORT)
 }
 
 // The whole report.
 fn report_on(out: &mut [u8], e: Ends) -> usize {
-    let first = verdict(out, 0, e.rounds, open_features(e.a), open_features(e.b));
+    let first = compare(out, e.rounds, e.a, e.b);
     let second = end_lines(out, first, b"A ", e.a, e.log_a);
     end_lines(out, second, b"B ", e.b, e.log_b)
 }
@@ -154,35 +204,99 @@ fn compared(out: &mut [u8], x: Settings, y: Settings) -> usize {
 
 // The report on settings that were read, or what is wrong with them.
 fn judged(out: &mut [u8], x: Settings, y: Settings) -> usize {
-    let bad = console::settings::invalid_line(x);
-    if bad != 0 {
-        return report::answers::refused_setting(out, 0, bad, INVALID);
+    let of_a = console::settings::first_invalid(x);
+    if of_a.line != 0 {
+        return console::settings::refuse(out, of_a);
     }
-    let wrong = console::settings::invalid_line(y);
-    if wrong != 0 {
-        return report::answers::refused_setting(out, 0, wrong, INVALID);
+    let of_b = console::settings::first_invalid(y);
+    if of_b.line != 0 {
+        return console::settings::refuse(out, of_b);
     }
     compared(out, x, y)
 }
 
-// Reads both ends, and gives the place behind what is to be said.
-fn said(input: &mut [u8], out: &mut [u8]) -> usize {
-    let x = console::settings::read_port(input, console::start(), false);
+// What is said of settings that end too early, or have a line that cannot be read; nothing where a read has failed.
+fn unread(out: &mut [u8], input: &[u8], s: Settings) -> usize {
+    let lines = s.lines;
+    if lines.failed {
+        return 0;
+    }
+    console::settings::undue(out, input, s, false, false)
+}
+
+// Reads both ends, and gives the place behind what is to be said, 0 where a read has failed.
+fn said(input: &mut [u8], out: &mut [u8], l: Lines) -> usize {
+    let x = console::settings::read_port(input, l, false);
     let first = x.lines;
     if !x.good {
-        return report::answers::unread_setting(out, 0, console::settings::unread_line(first));
+        return unread(out, input, x);
     }
     let y = console::settings::read_port(input, first, false);
-    let second = y.lines;
     if !y.good {
-        return report::answers::unread_setting(out, 0, console::settings::unread_line(second));
+        return unread(out, input, y);
     }
     judged(out, x, y)
 }
 
+// Writes octets to standard output, and where that fails says so on standard error.
+fn write(s: &[u8]) {
+    if !io::write_all(libc::STDOUT_FILENO, s) {
+        io::write_all(libc::STDERR_FILENO, b"pair: cannot write\n");
+    }
+}
+
+// Reads the settings from a descriptor, and writes what is to be said of them.
+fn serve(input: &mut [u8], output: &mut [u8], fd: i32) {
+    let at = said(input, output, console::start(fd));
+    if at == 0 {
+        io::write_all(libc::STDERR_FILENO, b"pair: cannot read\n");
+        return;
+    }
+    write(octets::first(output, at));
+}
+
+// Writes that the settings cannot be had.
+fn report_unopened(output: &mut [u8], file: &[u8]) {
+    let at = report::answers::unopened(output, 0, file);
+    write(octets::first(output, at));
+}
+
+// Writes the usage, to standard output where help was asked for, and otherwise to standard error.
+fn usage(asked: bool) {
+    let text = b"usage: pair [FILE]
+
+Will two boxes agree? The settings of A, then those of B, are read from FILE, or
+without it from standard input.
+
+Example:
+control max 0
+groups max 0 advertise 1 enable 1 willing 0 priorities 0 0 0 1 0 0 0 0 percentages 50 50 0 0 0 0 0 0 classes 2
+flow max 0 advertise 1 enable 1 willing 0 mask 08 classes 8
+applications max 0 advertise 1 enable 1 willing 0 ethertype 8906 08
+control max 0
+groups max 0 advertise 1 enable 1 willing 0 priorities 0 0 0 1 0 0 0 0 percentages 50 50 0 0 0 0 0 0 classes 2
+flow max 0 advertise 1 enable 1 willing 0 mask 10 classes 8
+applications max 0 advertise 1 enable 1 willing 0 ethertype 8906 08
+
+docs/FORMATS.md describes the settings and the report.
+";
+    if asked {
+        write(text);
+        return;
+    }
+    io::write_all(libc::STDERR_FILENO, text);
+}
+
 fn main() {
+    let mut name = io::buffer();
     let mut input = io::large_buffer();
     let mut output = io::large_buffer();
-    let at = said(&mut input, &mut output);
-    io::write_all(1, octets::first(&output, at));
+    let source = console::arguments::asked(&mut name);
+    match source {
+        Source::Input => serve(&mut input, &mut output, libc::STDIN_FILENO),
+        Source::File(fd) => serve(&mut input, &mut output, fd),
+        Source::Unopened(n) => report_unopened(&mut output, octets::first(&name, n)),
+        Source::Help => usage(true),
+        Source::Unknown => usage(false),
+    }
 }

@@ -18,7 +18,7 @@ fn id_of(p: &[u8], i: usize) -> usize
     high * 256 + low
 }
 
-fn selector_of(p: &[u8], i: usize) -> u8
+pub fn selector_of(p: &[u8], i: usize) -> u8
     requires { ⌜ i < entryCount (now p) ⌝ }
     ensures { λ r. ⌜ r ≡ selectorOf (now (p .entry)) i ⌝ }
 {
@@ -33,7 +33,7 @@ fn map_of(p: &[u8], i: usize) -> u8
 }
 
 // Whether entry i is ours: OUI 00 1b 21 (02, E3).
-fn is_ours(p: &[u8], i: usize) -> bool
+pub fn is_ours(p: &[u8], i: usize) -> bool
     requires { ⌜ i < entryCount (now p) ⌝ }
     ensures { λ r. ⌜ r ≡ isOurs (now (p .entry)) i ⌝ }
 {
@@ -47,7 +47,7 @@ fn is_ours(p: &[u8], i: usize) -> bool
 }
 
 // Whether entry i of `p` and entry j of `q` name the same selector and id.
-fn same_name(p: &[u8], i: usize, q: &[u8], j: usize) -> bool
+pub fn same_name(p: &[u8], i: usize, q: &[u8], j: usize) -> bool
     requires { ⌜ (i < entryCount (now p)) × (j < entryCount (now q)) ⌝ }
     ensures { λ r. ⌜ r ≡ sameName (now (p .entry)) i (now (q .entry)) j ⌝ }
 {

@@ -14,7 +14,7 @@ pub fn valid(p: &[u8]) -> bool
 }
 
 // The number of ones in a mask.
-fn ones(mask: u8) -> u8
+pub fn ones(mask: u8) -> u8
     ensures { λ r. ⌜ r ≡ ones 8 mask ⌝ }
 {
     let mut count: u8 = 0;

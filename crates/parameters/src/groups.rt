@@ -7,7 +7,7 @@ ghost use Rattle.parameters.specs.StepsLaws.{twoGroups};
 ghost use Rattle.parameters.specs.declared.Feature.the-variants.{Groups};
 
 // Whether the group number is 0 to 7 or 15.
-fn good_group(g: u8) -> bool
+pub fn good_group(g: u8) -> bool
     ensures { λ r. ⌜ r ≡ goodGroup g ⌝ }
 {
     if g <= 7 {
@@ -41,7 +41,7 @@ fn good_halves(s: &[u8]) -> bool
 }
 
 // The sum of the percentages; of eight octets it fits.
-fn sum(s: &[u8]) -> usize
+pub fn sum(s: &[u8]) -> usize
     requires { ⌜ length (now s) ≤ 8 ⌝ }
     ensures { λ r. ⌜ r ≡ sum (now (s .entry)) ⌝ }
 {

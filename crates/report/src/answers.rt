@@ -1,4 +1,5 @@
 // Answers: `done`, `refused`, notices.
+ghost use Prim.Native.Nat.{_≤_};
 use crate::forms;
 use notices::Notice;
 use port::Notices;
@@ -41,32 +42,77 @@ pub fn raised(out: &mut [u8], at: usize, n: Notices) -> usize {
     raised_one(out, c, applications, 4)
 }
 
-// `refused N`
+// 1 for a notice, 0 for none.
+fn one_if_raised(x: Raised) -> u8
+    ensures { λ r. ⌜ r ≤ 1 ⌝ }
+{
+    if port::events::raised_number(x) == 0 {
+        return 0;
+    }
+    1
+}
+
+// How many notices an event raised, at most four.
+pub fn raised_count(n: Notices) -> u8 {
+    let port = n.port;
+    let groups = n.groups;
+    let flow = n.flow;
+    let applications = n.applications;
+    one_if_raised(port) + one_if_raised(groups) + one_if_raised(flow) + one_if_raised(applications)
+}
+
+// How many notice lines follow, where any does, and the end of the line.
+fn ending(out: &mut [u8], at: usize, follow: u8) -> usize {
+    if follow == 0 {
+        return crate::text(out, at, b"\n");
+    }
+    let numbers = [follow as u64];
+    forms::put(out, at, b" notices #\n", &numbers)
+}
+
+// `refused N NAME`, by the number.
+fn refusal(out: &mut [u8], at: usize, number: u8) -> usize {
+    let numbers = [number as u64, number as u64];
+    forms::put(
+        out,
+        at,
+        b"refused # [|not-running|several-neighbours|not-dcbx|frame-length|past-the-end|no-control|control-length|control-version|invalid-setting|no-room|no-feature|no-notice||||no-port]",
+        &numbers,
+    )
+}
+
+// `refused N NAME`, a line
 pub fn refused(out: &mut [u8], at: usize, r: Refusal) -> usize {
-    let numbers = [tlv::refusal_number(r) as u64];
-    forms::put(out, at, b"refused #\n", &numbers)
+    let a = refusal(out, at, tlv::refusal_number(r));
+    crate::text(out, a, b"\n")
 }
 
-// Whether a place stands beside a refusal's number: 3 to 8.
-fn has_place(number: u8) -> bool {
+// ` at P` where a frame went wrong, which 3 to 8 say.
+fn wrong_place(out: &mut [u8], at: usize, number: u8, place: usize) -> usize {
+    let numbers = [place as u64];
     if number < 3 {
-        return false;
+        return at;
     }
-    number < 9
+    if 8 < number {
+        return at;
+    }
+    forms::put(out, at, b" at #", &numbers)
 }
 
-// `refused N at P` where a frame went wrong, and otherwise `refused N`
-pub fn refused_at(out: &mut [u8], at: usize, r: Refusal, place: usize) -> usize {
+// `refused N NAME` or `refused N NAME at P`, and how many notice lines follow
+pub fn refused_at(out: &mut [u8], at: usize, r: Refusal, place: usize, follow: u8) -> usize {
     let number = tlv::refusal_number(r);
-    if !has_place(number) {
-        return refused(out, at, r);
-    }
-    let numbers = [number as u64, place as u64];
-    forms::put(out, at, b"refused # at #\n", &numbers)
+    let a = refusal(out, at, number);
+    let b = wrong_place(out, a, number, place);
+    ending(out, b, follow)
 }
 
-// `done`, or `done send`
-pub fn done(out: &mut [u8], at: usize, send: bool) -> usize {
+// `done` or `done send`, and how many notice lines follow. Most events raise none, and plain texts are the quickest.
+pub fn done(out: &mut [u8], at: usize, send: bool, follow: u8) -> usize {
+    if follow != 0 {
+        let numbers = [send as u64, follow as u64];
+        return forms::put(out, at, b"done[| send] notices #\n", &numbers);
+    }
     if send {
         return crate::text(out, at, b"done send\n");
     }
@@ -80,20 +126,17 @@ pub fn frame(out: &mut [u8], at: usize, octets: &[u8]) -> usize {
     crate::text(out, b, b"\n")
 }
 
-// `error N: cannot be read`
-pub fn unread(out: &mut [u8], at: usize, line: u64) -> usize {
+// `bad settings: line N: refused R NAME`
+pub fn refused_setting(out: &mut [u8], at: usize, line: u64, number: u8) -> usize {
     let numbers = [line];
-    forms::put(out, at, b"error #: cannot be read\n", &numbers)
+    let a = forms::put(out, at, b"bad settings: line #: ", &numbers);
+    let b = refusal(out, a, number);
+    crate::text(out, b, b"\n")
 }
 
-// `bad settings: line N: cannot be read`
-pub fn unread_setting(out: &mut [u8], at: usize, line: u64) -> usize {
-    let numbers = [line];
-    forms::put(out, at, b"bad settings: line #: cannot be read\n", &numbers)
-}
-
-// `bad settings: line N: refused with R`
-pub fn refused_setting(out: &mut [u8], at: usize, line: u64, refusal: u8) -> usize {
-    let numbers = [line, refusal as u64];
-    forms::put(out, at, b"bad settings: line #: refused with #\n", &numbers)
+// `bad settings: FILE cannot be opened`
+pub fn unopened(out: &mut [u8], at: usize, file: &[u8]) -> usize {
+    let a = crate::text(out, at, b"bad settings: ");
+    let b = crate::text(out, a, file);
+    crate::text(out, b, b" cannot be opened\n")
 }

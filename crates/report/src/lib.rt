@@ -7,6 +7,7 @@ ghost use Rattle.report.specs.Put.{Put, Numbered, glyph, hexText};
 
 pub mod answers;
 pub mod configurations;
+pub mod errors;
 pub mod forms;
 pub mod ports;
 pub mod states;
@@ -69,12 +70,4 @@ pub fn hex(out: &mut [u8], at: usize, s: &[u8]) -> usize
         i += 1;
     }
     at + 2 * s.len()
-}
-
-// Puts octets, and `-` for none.
-pub fn octets_or_none(out: &mut [u8], at: usize, s: &[u8]) -> usize {
-    if s.len() == 0 {
-        return text(out, at, b"-");
-    }
-    hex(out, at, s)
 }

@@ -1,82 +1,123 @@
--- docs/FORMATS.md: the words that a setting has behind its name and its MAX. The first three are ADVERTISE, ENABLE and WILLING.
-use Prim.Native.Nat.{ℕ, _+_, _-_, _*_, _/_, _%_}
-use mathlib.Core.Bool.{Bool, true, false, _&&_, _||_}
+-- docs/FORMATS.md: the words that a setting has behind `max N`, or behind `set` and its feature.
+use Prim.Native.Nat.{ℕ, zero, suc, _+_, _-_, _*_, _/_, _%_}
+use mathlib.Core.Bool.{Bool, true, false, _&&_}
 use mathlib.Core.List.{List, [], _∷_, _++_}
-use lib.ListN.{length, replicate}
-use Rattle.octets.specs.Words.{if_then_else_, _below_, _atmost_, _is_}
-use Rattle.octets.specs.Octets.{at}
+use lib.ListN.{length, getD, set, replicate}
+use Rattle.octets.specs.Words.{if_then_else_, _below_, _is_}
+use Rattle.octets.specs.Octets.{at, same}
+use Rattle.octets.specs.Texts.{text}
+use Rattle.script.specs.declared.forms.Name.{Name}
+use Rattle.script.specs.declared.forms.Name.the-variants as Name
 use Rattle.script.specs.declared.forms.Field.{Field}
-use Rattle.script.specs.declared.forms.Field.the-variants.{Bit, Decimal, Hex2, Hex4, Octets}
+use Rattle.script.specs.declared.forms.Field.the-variants.{Word, Bit, Decimal, Hex2, Hex4, Selector, Parameters, Octets, End}
 use Rattle.script.specs.declared.forms.Form.{Form}
 use Rattle.script.specs.declared.forms.Form.the-variants.{Groups, Flow, Applications, Plain}
 use Rattle.script.specs.declared.forms.Values.{Values}
 use Rattle.script.specs.declared.text.Number.{Number}
 use Rattle.script.specs.declared.text.Number.the-variants.{Is, Not}
-use Rattle.script.specs.Text.{first, others, number, hexDigits, isOctets, pairAt, listed}
+use Rattle.script.specs.Text.{number, hexDigits, isOctets, pairAt, listed}
 
 -- ---- one word
 
--- what a word says, if it is what is due. "A bit is 0 or 1." Octets say no number.
+unfoldable pub nameText : Name → List ℕ
+nameText Name.Control = text "control"
+nameText Name.Groups = text "groups"
+nameText Name.Flow = text "flow"
+nameText Name.Applications = text "applications"
+nameText Name.Max = text "max"
+nameText Name.Advertise = text "advertise"
+nameText Name.Enable = text "enable"
+nameText Name.Willing = text "willing"
+nameText Name.Priorities = text "priorities"
+nameText Name.Percentages = text "percentages"
+nameText Name.Mask = text "mask"
+nameText Name.Classes = text "classes"
+
+-- "SELECTOR is ethertype (0), port (1), selector-2 or selector-3."
+unfoldable pub selector : List ℕ → Number
+selector w =
+    if same w (text "ethertype") then Is 0
+    else if same w (text "port") then Is 1
+    else if same w (text "selector-2") then Is 2
+    else if same w (text "selector-3") then Is 3
+    else Not
+
+-- a word that says no number is 0 where it is what is due
+unfoldable pub said : Bool → Number
+said true = Is 0
+said false = Not
+
+-- what a word says, if it is what is due. "A bit is 0 or 1." "HEX is 0 to 507 octets."
 unfoldable pub fieldNumber : Field → List ℕ → Number
+fieldNumber (Word n) w = said (same w (nameText n))
 fieldNumber Bit w = if length w is 1 then number 1 w else Not
 fieldNumber (Decimal limit) w = number limit w
 fieldNumber Hex2 w = if length w is 2 && hexDigits w then Is (pairAt w 0) else Not
 fieldNumber Hex4 w = if length w is 4 && hexDigits w then Is (pairAt w 0 * 256 + pairAt w 1) else Not
-fieldNumber Octets w = if isOctets 507 w then Is 0 else Not
-
--- a line's last word is what is due, and no other stands behind it
-unfoldable pub oneField : Field → List (List ℕ) → Number
-oneField f ws = if length (others ws) is 0 then fieldNumber f (first ws) else Not
+fieldNumber Selector w = selector w
+fieldNumber Parameters w = said (same w (text "parameters"))
+fieldNumber Octets w = said (isOctets 507 w)
+fieldNumber End w = Not
 
 -- ---- the words of a setting
 
--- how many there are: "at most 17 entries on a line"
-unfoldable pub fits : Form → ℕ → Bool
-fits Groups n = n is 20
-fits Flow n = n is 5
-fits Applications n = 3 atmost n && n atmost 54 && n % 3 is 0
-fits Plain n = n is 3 || n is 4
+-- "advertise B enable B willing B"
+unfoldable pub switches : List Field
+switches = Word Name.Advertise ∷ Bit ∷ Word Name.Enable ∷ Bit ∷ Word Name.Willing ∷ Bit ∷ []
 
--- what is due at place i: "G0 .. G7 P0 .. P7 NUMBER", "MASK NUMBER", "SELECTOR ID MAP for each entry", "HEX"
+unfoldable pub repeated : ℕ → List Field → List Field
+repeated zero l = []
+repeated (suc n) l = l ++ repeated n l
+
+-- "SELECTOR HHHH HH for each entry"
+abbrev pub entryFields : List Field
+entryFields = Selector ∷ Hex4 ∷ Hex2 ∷ []
+
+-- "priorities G0 .. G7 percentages P0 .. P7 classes N", "mask HH classes N", "at most 17 entries", "parameters HEX"
+unfoldable pub fields : Form → List Field
+fields Groups = switches ++ (Word Name.Priorities ∷ replicate 8 (Decimal 15)) ++ (Word Name.Percentages ∷ replicate 8 (Decimal 255)) ++ (Word Name.Classes ∷ Decimal 255 ∷ [])
+fields Flow = switches ++ (Word Name.Mask ∷ Hex2 ∷ Word Name.Classes ∷ Decimal 255 ∷ [])
+fields Applications = switches ++ repeated 17 entryFields
+fields Plain = switches ++ (Parameters ∷ Octets ∷ [])
+
+-- what is due at place i
 unfoldable pub due : Form → ℕ → Field
-due Groups i = if i below 3 then Bit else if i below 11 then Decimal 15 else Decimal 255
-due Flow i = if i below 3 then Bit else if i is 3 then Hex2 else Decimal 255
-due Applications i = if i below 3 then Bit else if i % 3 is 0 then Decimal 3 else if i % 3 is 1 then Hex4 else Hex2
-due Plain i = if i below 3 then Bit else Octets
+due f i = getD (fields f) i End
 
-unfoldable pub isSome : Number → Bool
-isSome (Is n) = true
-isSome Not = false
+-- where a line may end: behind its last word, "then SELECTOR HHHH HH for each entry", "then nothing or parameters HEX"
+unfoldable pub mayEnd : Field → Bool
+mayEnd (Word n) = false
+mayEnd Bit = false
+mayEnd (Decimal limit) = false
+mayEnd Hex2 = false
+mayEnd Hex4 = false
+mayEnd Selector = true
+mayEnd Parameters = true
+mayEnd Octets = false
+mayEnd End = true
 
-unfoldable pub value : Number → ℕ
-value (Is n) = n
-value Not = 0
+unfoldable pub onward : Number → Values → (ℕ → Values) → Values
+onward Not stop more = stop
+onward (Is n) stop more = more n
 
--- whether the words from place i on are what is due, and their numbers
-unfoldable pub allDue : Form → ℕ → List (List ℕ) → Bool
-allDue f i [] = true
-allDue f i (w ∷ ws) = isSome (fieldNumber (due f i) w) && allDue f (i + 1) ws
-
-unfoldable pub numbersFrom : Form → ℕ → List (List ℕ) → List ℕ
-numbersFrom f i [] = []
-numbersFrom f i (w ∷ ws) = value (fieldNumber (due f i) w) ∷ numbersFrom f (i + 1) ws
-
-abbrev pub noValues : Values
-noValues = record { good = false; count = 0; numbers = replicate 55 0 }
-
--- as many numbers as words, where there are as many as the form has
-unfoldable pub counted : Form → ℕ → List ℕ → Values
-counted f n numbers = if fits f n then record { good = true; count = n; numbers = numbers } else noValues
+-- the words from place i on, up to the first that is not what is due; v has the numbers of those before
+unfoldable pub valuesFrom : Form → ℕ → List ℕ → List (List ℕ) → Values
+valuesFrom f i v [] = record { good = mayEnd (due f i); place = i; due = due f i; numbers = v }
+valuesFrom f i v (w ∷ ws) =
+    onward (fieldNumber (due f i) w)
+    (record { good = false; place = i; due = due f i; numbers = v })
+    (λ n. valuesFrom f (i + 1) (set v i n) ws)
 
 unfoldable pub valuesOf : Form → List (List ℕ) → Values
-valuesOf f ws = if allDue f 0 ws then counted f (length ws) (numbersFrom f 0 ws ++ replicate (55 - length ws) 0) else noValues
+valuesOf f ws = valuesFrom f 0 (replicate 58 0) ws
 
 -- ---- the parameters that they give, as octets (01, TLV layout)
 
+-- of n words
 unfoldable pub parameterCount : Form → ℕ → ℕ
 parameterCount Groups n = 13
 parameterCount Flow n = 2
-parameterCount Applications n = (n - 3) / 3 * 6
+parameterCount Applications n = (n - 6) / 3 * 6
 parameterCount Plain n = 0
 
 -- octet k of the entry whose selector, id and map stand from place j on: id, selector, OUI 00 1b 21, map
@@ -89,12 +130,18 @@ entryOctet v j k =
     else if k is 4 then 33
     else at v (j + 2) % 256
 
--- group numbers are 4-bit halves, "priority 0 in the high half of the first octet"
+-- group numbers are 4-bit halves, "priority 0 in the high half of the first octet"; then percentages, then the number of classes
+unfoldable pub groupsOctet : List ℕ → ℕ → ℕ
+groupsOctet v i =
+    if i below 4 then at v (7 + 2 * i) % 16 * 16 + at v (8 + 2 * i) % 16
+    else if i below 12 then at v (12 + i) % 256
+    else at v (13 + i) % 256
+
 unfoldable pub parameterAt : Form → List ℕ → ℕ → ℕ
-parameterAt Groups v i = if i below 4 then at v (3 + 2 * i) % 16 * 16 + at v (4 + 2 * i) % 16 else at v (7 + i) % 256
-parameterAt Flow v i = at v (3 + i) % 256
-parameterAt Applications v i = entryOctet v (3 + i / 6 * 3) (i % 6)
+parameterAt Groups v i = groupsOctet v i
+parameterAt Flow v i = at v (7 + 2 * i) % 256
+parameterAt Applications v i = entryOctet v (6 + i / 6 * 3) (i % 6)
 parameterAt Plain v i = 0
 
 unfoldable pub parametersOf : Form → Values → List ℕ
-parametersOf f v = listed (parameterCount f (v .count)) 0 (parameterAt f (v .numbers))
+parametersOf f v = listed (parameterCount f (v .place)) 0 (parameterAt f (v .numbers))

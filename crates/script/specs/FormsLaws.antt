@@ -1,56 +1,73 @@
--- Laws of a setting's words: what is due, how many there are, and the octets that they give. Assumes nothing.
+-- Laws of a setting's words: what is due, and the octets that they give. Assumes nothing.
 use Prim.Native.Nat.{ℕ, zero, suc, _+_, _-_, _*_, _/_, _%_, _≤_, _<_}
 use native.Mathlib.Omega.{arith}
 use mathlib.Core.Path.{_≡_, refl, sym, ap, _∙_}
 use mathlib.Core.Bool.{Bool, true, false, not, _&&_}
 use mathlib.Core.List.{List, [], _∷_, _++_}
-use lib.Dec.{eqb}
-use lib.ListN.{length}
-use borrow.Author.Tests.{lt-ltb, le-ltb, le-leb, lt-leb, eq-eqb, ne-eqb, not-true, not-false}
-use Rattle.octets.specs.Words.{if_then_else_, _below_, _atmost_, _is_}
-use Rattle.octets.specs.Octets.{at}
+use lib.ListN.{length, take, drop, getD, replicate, getD-replicate, List·getD-eq-default}
+use lib.Seq.{getD-take, getD-drop, getD-append-add}
+use borrow.Author.Tests.{lt-ltb, le-ltb, eq-eqb, ne-eqb, not-true, not-false}
+use Rattle.octets.specs.Words.{if_then_else_, _below_, _is_}
+use Rattle.octets.specs.Octets.{at, same}
+use Rattle.octets.specs.Texts.{text}
+use Rattle.script.specs.declared.forms.Name.{Name}
+use Rattle.script.specs.declared.forms.Name.the-variants as Name
 use Rattle.script.specs.declared.forms.Field.{Field}
-use Rattle.script.specs.declared.forms.Field.the-variants.{Bit, Decimal, Hex2, Hex4, Octets}
+use Rattle.script.specs.declared.forms.Field.the-variants.{Word, Bit, Decimal, Hex2, Hex4, Selector, Parameters, Octets, End}
 use Rattle.script.specs.declared.forms.Form.{Form}
 use Rattle.script.specs.declared.forms.Form.the-variants.{Groups, Flow, Applications, Plain}
 use Rattle.script.specs.declared.text.Number.{Number}
 use Rattle.script.specs.declared.text.Number.the-variants.{Is, Not}
 use Rattle.script.specs.Text.{number, hexDigits, isOctets, pairAt}
-use Rattle.script.specs.Forms.{fieldNumber, fits, due, parameterCount, entryOctet, parameterAt}
+use Rattle.script.specs.Forms.{nameText, selector, said, fieldNumber, switches, repeated, entryFields, fields, due, mayEnd, parameterCount, entryOctet, groupsOctet, parameterAt}
 
 -- ---- what a form or a field is said to be
 
-pub field-as : (f g : Field) (w : List ℕ) {r : Number} → f ≡ g → r ≡ fieldNumber g w → r ≡ fieldNumber f w
-field-as f g w e h = rw e h
+module _ (f : Field) (w : List ℕ) {r : Number} where
+  pub field-as : (g : Field) → f ≡ g → r ≡ fieldNumber g w → r ≡ fieldNumber f w
+  field-as g e h = rw e h
 
-pub field-decimal : (f : Field) (w : List ℕ) {r : Number} {limit : ℕ} → f ≡ Decimal limit → r ≡ number limit w → r ≡ fieldNumber f w
+  pub field-decimal : {limit : ℕ} → f ≡ Decimal limit → r ≡ number limit w → r ≡ fieldNumber f w
+  unfolding fieldNumber
+  field-decimal e h = h ∙ rw e
+
+  pub field-word : {n : Name} {b : Bool} → f ≡ Word n → b ≡ same w (nameText n) → r ≡ said b → r ≡ fieldNumber f w
+  unfolding fieldNumber
+  field-word e g h = h ∙ rw (e, g)
+
+  pub field-selector : f ≡ Selector → r ≡ selector w → r ≡ fieldNumber f w
+  unfolding fieldNumber
+  field-selector e h = h ∙ rw e
+
+  pub field-parameters : {b : Bool} → f ≡ Parameters → b ≡ same w (text "parameters") → r ≡ said b → r ≡ fieldNumber f w
+  unfolding fieldNumber
+  field-parameters e g h = h ∙ rw (e, g)
+
+  pub field-octets : {b : Bool} → f ≡ Octets → b ≡ isOctets 507 w → r ≡ said b → r ≡ fieldNumber f w
+  unfolding fieldNumber
+  field-octets e g h = h ∙ rw (e, g)
+
+pub field-end : (f : Field) (w : List ℕ) → f ≡ End → Not ≡ fieldNumber f w
 unfolding fieldNumber
-field-decimal f w e h = h ∙ rw e
+field-end f w e = rw e
 
 pub due-as : (f g : Form) (i : ℕ) {r : Field} → f ≡ g → r ≡ due g i → r ≡ due f i
 due-as f g i e h = rw e h
 
-module _ (f : Form) (n : ℕ) where
-  pub fits-groups : f ≡ Groups → eqb n 20 ≡ fits f n
-  unfolding fits
-  fits-groups e = rw e
-
-  pub fits-flow : f ≡ Flow → eqb n 5 ≡ fits f n
-  unfolding fits
-  fits-flow e = rw e
-
-  pub fits-as : (g : Form) {r : Bool} → f ≡ g → r ≡ fits g n → r ≡ fits f n
-  fits-as g e h = rw e h
+-- the text of a name
+pub name-is : (n m : Name) (w : List ℕ) {b : Bool} → n ≡ m → b ≡ same w (nameText m) → b ≡ same w (nameText n)
+name-is n m w e h = rw e h
 
 module _ (f : Form) (v : List ℕ) (i : ℕ) {r : ℕ} where
-  pub parameter-groups : f ≡ Groups → r ≡ parameterAt Groups v i → r ≡ parameterAt f v i
-  parameter-groups e h = rw e h
+  pub parameter-groups : f ≡ Groups → r ≡ groupsOctet v i → r ≡ parameterAt f v i
+  unfolding parameterAt
+  parameter-groups e h = h ∙ rw e
 
-  pub parameter-flow : {x : ℕ} → f ≡ Flow → x ≡ at v (3 + i) → r ≡ x % 256 → r ≡ parameterAt f v i
+  pub parameter-flow : {x : ℕ} → f ≡ Flow → x ≡ at v (7 + 2 * i) → r ≡ x % 256 → r ≡ parameterAt f v i
   unfolding parameterAt
   parameter-flow e g h = h ∙ rw (e, g)
 
-  pub parameter-applications : f ≡ Applications → r ≡ entryOctet v (3 + i / 6 * 3) (i % 6) → r ≡ parameterAt f v i
+  pub parameter-applications : f ≡ Applications → r ≡ entryOctet v (6 + i / 6 * 3) (i % 6) → r ≡ parameterAt f v i
   unfolding parameterAt
   parameter-applications e h = h ∙ rw e
 
@@ -94,78 +111,222 @@ module _ (w : List ℕ) where
     unfolding fieldNumber
     hex4-read h e t p q m n = simp (eq-eqb (length w) 4 h, sym e ∙ not-false b t, q, p, n, m)
 
-    pub octets-read : b ≡ isOctets 507 w → b ≡ true → Is 0 ≡ fieldNumber Octets w
-    unfolding fieldNumber
-    octets-read e t = simp (sym e ∙ t)
+-- ---- a selector
 
-    pub octets-other : b ≡ isOctets 507 w → b ≡ false → Not ≡ fieldNumber Octets w
-    unfolding fieldNumber
-    octets-other e t = simp (sym e ∙ t)
+module _ (w : List ℕ) where
+  pub selector-0 : {a : Bool} → a ≡ same w (text "ethertype") → a ≡ true → Is 0 ≡ selector w
+  unfolding selector
+  selector-0 e0 t0 = simp (sym e0 ∙ t0)
+
+  pub selector-1 : {a b : Bool} → a ≡ same w (text "ethertype") → a ≡ false → b ≡ same w (text "port") → b ≡ true → Is 1 ≡ selector w
+  unfolding selector
+  selector-1 e0 t0 e1 t1 = simp (sym e0 ∙ t0, sym e1 ∙ t1)
+
+  pub selector-2 : {a b c : Bool} → a ≡ same w (text "ethertype") → a ≡ false → b ≡ same w (text "port") → b ≡ false → c ≡ same w (text "selector-2") → c ≡ true → Is 2 ≡ selector w
+  unfolding selector
+  selector-2 e0 t0 e1 t1 e2 t2 = simp (sym e0 ∙ t0, sym e1 ∙ t1, sym e2 ∙ t2)
+
+  pub selector-3 : {a b c d : Bool} → a ≡ same w (text "ethertype") → a ≡ false → b ≡ same w (text "port") → b ≡ false → c ≡ same w (text "selector-2") → c ≡ false → d ≡ same w (text "selector-3") → d ≡ true → Is 3 ≡ selector w
+  unfolding selector
+  selector-3 e0 t0 e1 t1 e2 t2 e3 t3 = simp (sym e0 ∙ t0, sym e1 ∙ t1, sym e2 ∙ t2, sym e3 ∙ t3)
+
+  pub selector-none : {a b c d : Bool} → a ≡ same w (text "ethertype") → a ≡ false → b ≡ same w (text "port") → b ≡ false → c ≡ same w (text "selector-2") → c ≡ false → d ≡ same w (text "selector-3") → d ≡ false → Not ≡ selector w
+  unfolding selector
+  selector-none e0 t0 e1 t1 e2 t2 e3 t3 = simp (sym e0 ∙ t0, sym e1 ∙ t1, sym e2 ∙ t2, sym e3 ∙ t3)
+
+pub said-is : {b : Bool} → b ≡ true → Is 0 ≡ said b
+unfolding said
+said-is e = rw e
+
+pub said-not : {b : Bool} → b ≡ false → Not ≡ said b
+unfolding said
+said-not e = rw e
+
+-- ---- where a line may end
+
+module _ (f : Field) where
+  pub end-word : {n : Name} → f ≡ Word n → false ≡ mayEnd f
+  unfolding mayEnd
+  end-word e = rw e
+
+  pub end-bit : f ≡ Bit → false ≡ mayEnd f
+  unfolding mayEnd
+  end-bit e = rw e
+
+  pub end-decimal : {limit : ℕ} → f ≡ Decimal limit → false ≡ mayEnd f
+  unfolding mayEnd
+  end-decimal e = rw e
+
+  pub end-hex2 : f ≡ Hex2 → false ≡ mayEnd f
+  unfolding mayEnd
+  end-hex2 e = rw e
+
+  pub end-hex4 : f ≡ Hex4 → false ≡ mayEnd f
+  unfolding mayEnd
+  end-hex4 e = rw e
+
+  pub end-selector : f ≡ Selector → true ≡ mayEnd f
+  unfolding mayEnd
+  end-selector e = rw e
+
+  pub end-parameters : f ≡ Parameters → true ≡ mayEnd f
+  unfolding mayEnd
+  end-parameters e = rw e
+
+  pub end-octets : f ≡ Octets → false ≡ mayEnd f
+  unfolding mayEnd
+  end-octets e = rw e
+
+  pub end-is : f ≡ End → true ≡ mayEnd f
+  unfolding mayEnd
+  end-is e = rw e
 
 -- ---- what is due
 
+-- the same field at n places
+at-run : (l : List Field) (x : Field) (from n i : ℕ) → take n (drop from l) ≡ replicate n x → from ≤ i → i < from + n → x ≡ getD l i End
+at-run l x from n i e h k =
+    let z : from + (i - from) ≡ i = omega arith in
+    sym (getD-replicate n (i - from) x End (omega arith))
+    ∙ ap (λ (m : List Field). getD m (i - from) End) (sym e)
+    ∙ getD-take n (drop from l) (i - from) End (omega arith)
+    ∙ getD-drop from l (i - from) End
+    ∙ ap (λ (j : ℕ). getD l j End) z
+
+-- one of three fields again and again
+at-third : (n i : ℕ) (a b c : Field) → i < 3 * n → getD (repeated n (a ∷ b ∷ c ∷ [])) i End ≡ getD (a ∷ b ∷ c ∷ []) (i % 3) End
+unfolding repeated
+at-third zero i a b c h = absurd (omega arith)
+at-third (suc n) zero a b c h = refl
+at-third (suc n) (suc zero) a b c h = refl
+at-third (suc n) (suc (suc zero)) a b c h = refl
+at-third (suc n) (suc (suc (suc i))) a b c h =
+    let e : i % 3 ≡ suc (suc (suc i)) % 3 = omega arith in
+    at-third n i a b c (omega arith) ∙ ap (λ (k : ℕ). getD (a ∷ b ∷ c ∷ []) k End) e
+
+begun : (l : List Field) (i : ℕ) {r : Field} → take 6 l ≡ switches → i < 6 → r ≡ getD switches i End → r ≡ getD l i End
+begun l i e h k = k ∙ ap (λ (m : List Field). getD m i End) (sym e) ∙ getD-take 6 l i End h
+
+pub due-switch : (f : Form) (i : ℕ) {r : Field} → i < 6 → r ≡ getD switches i End → r ≡ due f i
+unfolding due fields switches repeated
+due-switch Groups i h k = begun (fields Groups) i refl h k
+due-switch Flow i h k = begun (fields Flow) i refl h k
+due-switch Applications i h k = begun (fields Applications) i refl h k
+due-switch Plain i h k = begun (fields Plain) i refl h k
+
+pub due-bit : (i : ℕ) → i < 6 → (i ≡ 0 → ⊥) → (i ≡ 2 → ⊥) → (i ≡ 4 → ⊥) → Bit ≡ getD switches i End
+unfolding switches
+due-bit zero h a b c = absurd (a refl)
+due-bit (suc zero) h a b c = refl
+due-bit (suc (suc zero)) h a b c = absurd (b refl)
+due-bit (suc (suc (suc zero))) h a b c = refl
+due-bit (suc (suc (suc (suc zero)))) h a b c = absurd (c refl)
+due-bit (suc (suc (suc (suc (suc zero))))) h a b c = refl
+due-bit (suc (suc (suc (suc (suc (suc i)))))) h a b c = absurd (omega arith)
+
 module _ (i : ℕ) where
-  pub due-bit : (f : Form) → i < 3 → Bit ≡ due f i
-  unfolding due
-  due-bit Groups h = simp (lt-ltb i 3 h)
-  due-bit Flow h = simp (lt-ltb i 3 h)
-  due-bit Applications h = simp (lt-ltb i 3 h)
-  due-bit Plain h = simp (lt-ltb i 3 h)
+  pub due-advertise : i ≡ 0 → Word Name.Advertise ≡ getD switches i End
+  unfolding switches
+  due-advertise e = rw e
 
-  pub due-group : 3 ≤ i → i < 11 → Decimal 15 ≡ due Groups i
-  unfolding due
-  due-group h k = simp (le-ltb i 3 h, lt-ltb i 11 k)
+  pub due-enable : i ≡ 2 → Word Name.Enable ≡ getD switches i End
+  unfolding switches
+  due-enable e = rw e
 
-  pub due-percentage : 11 ≤ i → Decimal 255 ≡ due Groups i
-  unfolding due
-  due-percentage h = simp (le-ltb i 3 (omega arith), le-ltb i 11 h)
+  pub due-willing : i ≡ 4 → Word Name.Willing ≡ getD switches i End
+  unfolding switches
+  due-willing e = rw e
 
-  pub due-mask : i ≡ 3 → Hex2 ≡ due Flow i
-  unfolding due
-  due-mask h = simp (le-ltb i 3 (omega arith), eq-eqb i 3 h)
+  pub due-priorities : i ≡ 6 → Word Name.Priorities ≡ due Groups i
+  unfolding due fields switches
+  due-priorities e = rw e
 
-  pub due-classes : 3 ≤ i → (i ≡ 3 → ⊥) → Decimal 255 ≡ due Flow i
-  unfolding due
-  due-classes h k = simp (le-ltb i 3 h, ne-eqb i 3 k)
+  pub due-group : 6 ≤ i → (i ≡ 6 → ⊥) → i < 15 → Decimal 15 ≡ due Groups i
+  unfolding due fields switches
+  due-group h n k = at-run (fields Groups) (Decimal 15) 7 8 i refl (omega arith) (omega arith)
 
-  pub due-selector : 3 ≤ i → i % 3 ≡ 0 → Decimal 3 ≡ due Applications i
-  unfolding due
-  due-selector h k = simp (le-ltb i 3 h, eq-eqb (i % 3) 0 k)
+  pub due-percentages : i ≡ 15 → Word Name.Percentages ≡ due Groups i
+  unfolding due fields switches
+  due-percentages e = rw e
 
-  pub due-id : 3 ≤ i → (i % 3 ≡ 0 → ⊥) → i % 3 ≡ 1 → Hex4 ≡ due Applications i
-  unfolding due
-  due-id h k l = simp (le-ltb i 3 h, ne-eqb (i % 3) 0 k, eq-eqb (i % 3) 1 l)
+  pub due-percentage : 15 ≤ i → (i ≡ 15 → ⊥) → i < 24 → Decimal 255 ≡ due Groups i
+  unfolding due fields switches
+  due-percentage h n k = at-run (fields Groups) (Decimal 255) 16 8 i refl (omega arith) (omega arith)
 
-  pub due-map : 3 ≤ i → (i % 3 ≡ 0 → ⊥) → (i % 3 ≡ 1 → ⊥) → Hex2 ≡ due Applications i
-  unfolding due
-  due-map h k l = simp (le-ltb i 3 h, ne-eqb (i % 3) 0 k, ne-eqb (i % 3) 1 l)
+  pub due-classes : i ≡ 24 → Word Name.Classes ≡ due Groups i
+  unfolding due fields switches
+  due-classes e = rw e
 
-  pub due-octets : 3 ≤ i → Octets ≡ due Plain i
-  unfolding due
-  due-octets h = simp (le-ltb i 3 h)
+  pub due-number : i ≡ 25 → Decimal 255 ≡ due Groups i
+  unfolding due fields switches
+  due-number e = rw e
 
--- ---- how many words
+  pub due-behind : 24 ≤ i → (i ≡ 24 → ⊥) → (i ≡ 25 → ⊥) → End ≡ due Groups i
+  unfolding due fields switches
+  due-behind h a b = sym (List·getD-eq-default (fields Groups) End {n = i} (omega arith))
 
-module _ (n : ℕ) where
-  pub fits-few : n < 3 → false ≡ fits Applications n
-  unfolding fits
-  fits-few h = simp (lt-leb 3 n h)
+  pub due-mask : i ≡ 6 → Word Name.Mask ≡ due Flow i
+  unfolding due fields switches
+  due-mask e = rw e
 
-  pub fits-many : 54 < n → false ≡ fits Applications n
-  unfolding fits
-  fits-many h = simp (le-leb 3 n (omega arith), lt-leb n 54 h)
+  pub due-digits : i ≡ 7 → Hex2 ≡ due Flow i
+  unfolding due fields switches
+  due-digits e = rw e
 
-  pub fits-entries : 3 ≤ n → n ≤ 54 → eqb (n % 3) 0 ≡ fits Applications n
-  unfolding fits
-  fits-entries h k = simp (le-leb 3 n h, le-leb n 54 k)
+  pub due-flow-classes : i ≡ 8 → Word Name.Classes ≡ due Flow i
+  unfolding due fields switches
+  due-flow-classes e = rw e
 
-  pub fits-three : n ≡ 3 → true ≡ fits Plain n
-  unfolding fits
-  fits-three h = simp (eq-eqb n 3 h)
+  pub due-flow-number : i ≡ 9 → Decimal 255 ≡ due Flow i
+  unfolding due fields switches
+  due-flow-number e = rw e
 
-  pub fits-four : (n ≡ 3 → ⊥) → eqb n 4 ≡ fits Plain n
-  unfolding fits
-  fits-four h = simp (ne-eqb n 3 h)
+  pub due-flow-behind : 6 ≤ i → (i ≡ 6 → ⊥) → (i ≡ 7 → ⊥) → (i ≡ 8 → ⊥) → (i ≡ 9 → ⊥) → End ≡ due Flow i
+  unfolding due fields switches
+  due-flow-behind h a b c d = sym (List·getD-eq-default (fields Flow) End {n = i} (omega arith))
+
+  due-entry : (k : ℕ) → 6 ≤ i → i < 57 → i % 3 ≡ k → getD entryFields k End ≡ due Applications i
+  unfolding due fields switches
+  due-entry k h l e =
+      let z : 6 + (i - 6) ≡ i = omega arith in
+      let m : k ≡ (i - 6) % 3 = omega arith in
+      ap (λ (j : ℕ). getD entryFields j End) m
+      ∙ sym (at-third 17 (i - 6) Selector Hex4 Hex2 (omega arith))
+      ∙ sym (getD-append-add switches (repeated 17 entryFields) (i - 6) End)
+      ∙ ap (λ (j : ℕ). getD (switches ++ repeated 17 entryFields) j End) z
+
+  pub due-selector : 6 ≤ i → i < 57 → i % 3 ≡ 0 → Selector ≡ due Applications i
+  due-selector h k l = due-entry 0 h k l
+
+  pub due-id : 6 ≤ i → i < 57 → i % 3 ≡ 1 → Hex4 ≡ due Applications i
+  due-id h k l = due-entry 1 h k l
+
+  pub due-map : 6 ≤ i → i < 57 → (i % 3 ≡ 0 → ⊥) → (i % 3 ≡ 1 → ⊥) → Hex2 ≡ due Applications i
+  due-map h k l m = due-entry 2 h k (omega arith)
+
+  pub due-entries-behind : 57 ≤ i → End ≡ due Applications i
+  unfolding due fields switches repeated
+  due-entries-behind h = sym (List·getD-eq-default (fields Applications) End {n = i} h)
+
+  pub due-parameters : i ≡ 6 → Parameters ≡ due Plain i
+  unfolding due fields switches
+  due-parameters e = rw e
+
+  pub due-octets : i ≡ 7 → Octets ≡ due Plain i
+  unfolding due fields switches
+  due-octets e = rw e
+
+  pub due-plain-behind : 6 ≤ i → (i ≡ 6 → ⊥) → (i ≡ 7 → ⊥) → End ≡ due Plain i
+  unfolding due fields switches
+  due-plain-behind h a b = sym (List·getD-eq-default (fields Plain) End {n = i} (omega arith))
+
+-- every form has ended at place 57
+pub due-last : (f : Form) (i : ℕ) → 57 ≤ i → due f i ≡ End
+unfolding due fields switches repeated
+due-last Groups i h = List·getD-eq-default (fields Groups) End {n = i} (omega arith)
+due-last Flow i h = List·getD-eq-default (fields Flow) End {n = i} (omega arith)
+due-last Applications i h = List·getD-eq-default (fields Applications) End {n = i} h
+due-last Plain i h = List·getD-eq-default (fields Plain) End {n = i} (omega arith)
 
 -- ---- octets
 
@@ -195,14 +356,18 @@ module _ (v : List ℕ) (j k : ℕ) where
   entry-map a b c d f e t = t ∙ simp (e, ne-eqb k 0 a, ne-eqb k 1 b, ne-eqb k 2 c, ne-eqb k 3 d, ne-eqb k 4 f)
 
 module _ (v : List ℕ) (i : ℕ) where
-  pub groups-halves : {x y : ℕ} → i < 4 → x ≡ at v (3 + 2 * i) → y ≡ at v (4 + 2 * i) → x % 16 * 16 + y % 16 ≡ parameterAt Groups v i
-  unfolding parameterAt
+  pub groups-halves : {x y : ℕ} → i < 4 → x ≡ at v (7 + 2 * i) → y ≡ at v (8 + 2 * i) → x % 16 * 16 + y % 16 ≡ groupsOctet v i
+  unfolding groupsOctet
   groups-halves h e t = simp (lt-ltb i 4 h, e, t)
 
-  pub groups-rest : {x r : ℕ} → 4 ≤ i → x ≡ at v (7 + i) → r ≡ x % 256 → r ≡ parameterAt Groups v i
-  unfolding parameterAt
-  groups-rest h e t = t ∙ simp (le-ltb i 4 h, e)
+  pub groups-percentage : {x r : ℕ} → 4 ≤ i → i < 12 → x ≡ at v (12 + i) → r ≡ x % 256 → r ≡ groupsOctet v i
+  unfolding groupsOctet
+  groups-percentage h k e t = t ∙ simp (le-ltb i 4 h, lt-ltb i 12 k, e)
 
-pub entries-few : (n : ℕ) → n < 3 → 0 ≡ parameterCount Applications n
+  pub groups-classes : {x r : ℕ} → 12 ≤ i → x ≡ at v (13 + i) → r ≡ x % 256 → r ≡ groupsOctet v i
+  unfolding groupsOctet
+  groups-classes h e t = t ∙ simp (le-ltb i 4 (omega arith), le-ltb i 12 h, e)
+
+pub entries-few : (n : ℕ) → n < 6 → 0 ≡ parameterCount Applications n
 unfolding parameterCount
-entries-few n h = let e : n - 3 ≡ 0 = omega arith in simp e
+entries-few n h = let e : n - 6 ≡ 0 = omega arith in simp e

@@ -1,11 +1,14 @@
 -- docs/FORMATS.md: the lines of settings and of events.
-use Prim.Native.Nat.{ℕ, _-_, _%_}
+use Prim.Native.Nat.{ℕ, _+_, _-_, _%_}
 use mathlib.Core.Bool.{Bool, true, false, _&&_, _||_}
 use mathlib.Core.List.{List, [], _∷_, _++_}
 use lib.ListN.{length, take, drop, replicate}
 use Rattle.octets.specs.Words.{if_then_else_, _below_, _is_}
 use Rattle.octets.specs.Octets.{at, same}
-use Rattle.script.specs.declared.forms.Field.the-variants.{Bit, Decimal}
+use Rattle.octets.specs.Texts.{text}
+use Rattle.script.specs.declared.forms.Name.{Name}
+use Rattle.script.specs.declared.forms.Name.the-variants as Name
+use Rattle.script.specs.declared.forms.Field.the-variants.{Word, Bit, Decimal, End}
 use Rattle.script.specs.declared.forms.Form.{Form}
 use Rattle.script.specs.declared.forms.Form.the-variants as Form
 use Rattle.script.specs.declared.forms.Values.{Values}
@@ -17,12 +20,16 @@ use Rattle.script.specs.declared.Part.{Part}
 use Rattle.script.specs.declared.Part.the-variants as Part
 use Rattle.script.specs.declared.Keyword.{Keyword}
 use Rattle.script.specs.declared.Keyword.the-variants as Keyword
+use Rattle.script.specs.declared.Due.{Due}
+use Rattle.script.specs.declared.Due.the-variants as Due
+use Rattle.script.specs.declared.Unread.{Unread}
+use Rattle.script.specs.declared.Unread.the-variants as Unread
 use Rattle.script.specs.declared.Kind.{Kind}
 use Rattle.script.specs.declared.Kind.the-variants as Kind
 use Rattle.script.specs.declared.Line.{Line}
 use Rattle.script.specs.declared.PortWord.{PortWord}
 use Rattle.script.specs.Text.{words, first, others, number, isOctets, octetsOf}
-use Rattle.script.specs.Forms.{oneField, valuesOf, parametersOf}
+use Rattle.script.specs.Forms.{nameText, fieldNumber, valuesOf, parametersOf}
 use Rattle.script.specs.StepsLaws.{trimmed, rest}
 
 -- "A line that is empty or begins with # is passed over."
@@ -31,19 +38,24 @@ passedOver s = length s is 0 || at s 0 is 35
 
 -- ---- the port that a line may begin with
 
--- "its first word is a number, 0 to 255"; a line that is too long to be read has none
-unfoldable pub portNumber : List ℕ → Number
-portNumber s = if 1100 below length s then Not else number 255 (first (words s))
+-- "its first word is a number, 0 to 255"
+abbrev pub portNumber : List ℕ → Number
+portNumber s = number 255 (first (words s))
 
 -- "Without a port, port 1 is meant."
 unfoldable pub portWord : Number → PortWord
 portWord Not = record { given = false; number = 1 }
 portWord (Is n) = record { given = true; number = n % 256 }
 
--- what is read: "Spaces before and behind it do not count."
+-- what is read: "Spaces before and behind it do not count." A line that is too long stays whole, and cannot be read.
 unfoldable pub behindPort : Bool → List ℕ → List ℕ
 behindPort false s = s
-behindPort true s = trimmed (rest s)
+behindPort true s = if 1100 below length s then s else trimmed (rest s)
+
+-- the words behind a port
+unfoldable pub wordsBehind : Bool → List ℕ → List (List ℕ)
+wordsBehind false s = words s
+wordsBehind true s = others (words s)
 
 -- ---- what a line gives
 
@@ -57,147 +69,149 @@ lineOf k p = record { kind = k; n = length p; octets = filled p }
 abbrev pub bare : Kind → Line
 bare k = lineOf k []
 
-abbrev pub unreadable : Line
-unreadable = bare Kind.Unreadable
+abbrev pub unreadable : Unread → Line
+unreadable why = bare (Kind.Unreadable why)
 
--- a setting: its MAX or its feature's number, and its switches
+-- "which word (from 1) and what is due there. The word is the first that is not what is due."
+abbrev pub notDue : ℕ → Due → Line
+notDue word due = unreadable (Unread.Word word due)
+
+-- "a line whose last octet is a carriage return"
+unfoldable pub returned : List ℕ → Bool
+returned s = at s (length s - 1) is 13
+
+-- ---- the words of settings and of `set`
+
+-- a setting: its highest version or its feature's number, and its switches
 unfoldable pub settingKind : ℕ → List ℕ → Kind
-settingKind n v = Kind.Setting n (at v 0 is 1) (at v 1 is 1) (at v 2 is 1)
+settingKind n v = Kind.Setting n (at v 1 is 1) (at v 3 is 1) (at v 5 is 1)
 
-unfoldable pub settingWith : ℕ → Values → List ℕ → Line
-settingWith n v p = if v .good then lineOf (settingKind n (v .numbers)) p else unreadable
+-- the words from `advertise` on, which is the word with a number
+unfoldable pub settingWith : ℕ → ℕ → Values → List ℕ → Line
+settingWith word n v p = if v .good then lineOf (settingKind n (v .numbers)) p else notDue (word + v .place) (Due.Field (v .due))
 
--- ADVERTISE ENABLE WILLING and a feature's parameters, behind its name and MAX
-unfoldable pub feature : Form → Number → List (List ℕ) → Line
-feature f Not ws = unreadable
-feature f (Is n) ws = settingWith (n % 256) (valuesOf f ws) (parametersOf f (valuesOf f ws))
+unfoldable pub feature : Form → ℕ → ℕ → List (List ℕ) → Line
+feature f word n ws = settingWith word n (valuesOf f ws) (parametersOf f (valuesOf f ws))
 
--- ADVERTISE ENABLE WILLING HEX, behind a feature's number; HEX may be missing
-unfoldable pub plain : Number → List (List ℕ) → Line
-plain Not ws = unreadable
-plain (Is n) ws = settingWith (n % 256) (valuesOf Form.Plain ws) (octetsOf (first (others (others (others ws)))))
+-- the words behind `set NUMBER`: HEX is the eighth, and may be missing
+unfoldable pub plain : ℕ → List (List ℕ) → Line
+plain n ws = settingWith 3 n (valuesOf Form.Plain ws) (octetsOf (first (drop 7 ws)))
+
+-- a line that ends before the word with a number
+unfoldable pub alone : Kind → ℕ → List (List ℕ) → Line
+alone k word ws = if length ws is 0 then bare k else notDue word (Due.Field End)
 
 -- ---- settings
 
--- `control`, `groups`, `flow`, `applications`
-unfoldable pub partName : Part → List ℕ
-partName Part.Control = 99 ∷ 111 ∷ 110 ∷ 116 ∷ 114 ∷ 111 ∷ 108 ∷ []
-partName Part.Groups = 103 ∷ 114 ∷ 111 ∷ 117 ∷ 112 ∷ 115 ∷ []
-partName Part.Flow = 102 ∷ 108 ∷ 111 ∷ 119 ∷ []
-partName Part.Applications = 97 ∷ 112 ∷ 112 ∷ 108 ∷ 105 ∷ 99 ∷ 97 ∷ 116 ∷ 105 ∷ 111 ∷ 110 ∷ 115 ∷ []
+unfoldable pub partName : Part → Name
+partName Part.Control = Name.Control
+partName Part.Groups = Name.Groups
+partName Part.Flow = Name.Flow
+partName Part.Applications = Name.Applications
 
--- `control MAX`
-unfoldable pub control : Number → Line
-control Not = unreadable
-control (Is n) = bare (Kind.Control (n % 256))
+-- the words behind `NAME max N`
+unfoldable pub settingOf : Part → ℕ → List (List ℕ) → Line
+settingOf Part.Control max ws = alone (Kind.Control max) 4 ws
+settingOf Part.Groups max ws = feature Form.Groups 4 max ws
+settingOf Part.Flow max ws = feature Form.Flow 4 max ws
+settingOf Part.Applications max ws = feature Form.Applications 4 max ws
 
-unfoldable pub settingOf : Part → List (List ℕ) → Line
-settingOf Part.Control ws = control (oneField (Decimal 255) ws)
-settingOf Part.Groups ws = feature Form.Groups (number 255 (first ws)) (others ws)
-settingOf Part.Flow ws = feature Form.Flow (number 255 (first ws)) (others ws)
-settingOf Part.Applications ws = feature Form.Applications (number 255 (first ws)) (others ws)
+unfoldable pub settingMax : Part → Number → List (List ℕ) → Line
+settingMax p Not ws = notDue 3 (Due.Field (Decimal 255))
+settingMax p (Is max) ws = settingOf p (max % 256) ws
 
--- the line of the settings that is due; "a line of more than 1,100 octets cannot be read"
+-- the words behind `NAME max`, and behind NAME
+unfoldable pub behindMax : Part → List (List ℕ) → Line
+behindMax p ws = settingMax p (number 255 (first ws)) (others ws)
+
+unfoldable pub behindName : Part → List (List ℕ) → Line
+behindName p ws = if same (first ws) (nameText Name.Max) then behindMax p (others ws) else notDue 2 (Due.Field (Word Name.Max))
+
+-- the line of the settings that is due
 unfoldable pub settingLine : Part → List ℕ → Line
 settingLine p s =
-    if 1100 below length s then unreadable
-    else if same (first (words s)) (partName p) then settingOf p (others (words s))
-    else unreadable
+    if 1100 below length s then unreadable Unread.Long
+    else if returned s then unreadable Unread.Return
+    else if same (first (words s)) (nameText (partName p)) then behindName p (others (words s))
+    else notDue 1 (Due.Field (Word (partName p)))
 
 -- a line behind the four of a port: "it begins the settings of another port if its first word, behind a port if it has one, is control"
 unfoldable pub beginsSettings : List ℕ → Bool
-beginsSettings s =
-    if 1100 below length s then false
-    else same (first (words (behindPort (portWord (portNumber s) .given) s))) (partName Part.Control)
+beginsSettings s = same (first (wordsBehind (portWord (portNumber s) .given) s)) (nameText Name.Control)
 
 -- ---- events
 
--- the words of events
-abbrev pub goneWord : List ℕ
-goneWord = 103 ∷ 111 ∷ 110 ∷ 101 ∷ []
-
-abbrev pub takeWord : List ℕ
-takeWord = 116 ∷ 97 ∷ 107 ∷ 101 ∷ []
-
-abbrev pub showWord : List ℕ
-showWord = 115 ∷ 104 ∷ 111 ∷ 119 ∷ []
-
-abbrev pub setWord : List ℕ
-setWord = 115 ∷ 101 ∷ 116 ∷ []
-
-abbrev pub writeWord : List ℕ
-writeWord = 119 ∷ 114 ∷ 105 ∷ 116 ∷ 101 ∷ []
-
-abbrev pub adminWord : List ℕ
-adminWord = 97 ∷ 100 ∷ 109 ∷ 105 ∷ 110 ∷ []
-
-abbrev pub receiveWord : List ℕ
-receiveWord = 114 ∷ 101 ∷ 99 ∷ 101 ∷ 105 ∷ 118 ∷ 101 ∷ []
-
-abbrev pub transmitWord : List ℕ
-transmitWord = 116 ∷ 114 ∷ 97 ∷ 110 ∷ 115 ∷ 109 ∷ 105 ∷ 116 ∷ []
-
-abbrev pub severalWord : List ℕ
-severalWord = 115 ∷ 101 ∷ 118 ∷ 101 ∷ 114 ∷ 97 ∷ 108 ∷ []
-
 unfoldable pub flagWord : List ℕ → Keyword
 flagWord w =
-    if same w adminWord then Keyword.Flag Admin
-    else if same w receiveWord then Keyword.Flag Receive
-    else if same w transmitWord then Keyword.Flag Transmit
-    else if same w severalWord then Keyword.Flag Several
+    if same w (text "admin") then Keyword.Flag Admin
+    else if same w (text "receive") then Keyword.Flag Receive
+    else if same w (text "transmit") then Keyword.Flag Transmit
+    else if same w (text "several") then Keyword.Flag Several
+    else if same w (text "B") then Keyword.Frame
     else Keyword.Other
 
 unfoldable pub keyword : List ℕ → Keyword
 keyword w =
-    if same w goneWord then Keyword.Gone
-    else if same w takeWord then Keyword.Take
-    else if same w showWord then Keyword.Show
-    else if same w setWord then Keyword.Set
-    else if same w writeWord then Keyword.Write
+    if same w (text "gone") then Keyword.Gone
+    else if same w (text "take") then Keyword.Take
+    else if same w (text "show") then Keyword.Show
+    else if same w (text "set") then Keyword.Set
+    else if same w (text "write") then Keyword.Write
     else flagWord w
 
--- a line of one word
-unfoldable pub alone : Kind → List (List ℕ) → Line
-alone k ws = if length ws is 0 then bare k else unreadable
+-- "admin BIT" and the like
+unfoldable pub flagBit : Flag → Number → List (List ℕ) → Line
+flagBit x Not ws = notDue 2 (Due.Field Bit)
+flagBit x (Is n) ws = alone (Kind.Flag x (n is 1)) 3 ws
 
-unfoldable pub flag : Flag → Number → Line
-flag x Not = unreadable
-flag x (Is n) = bare (Kind.Flag x (n is 1))
+unfoldable pub flag : Flag → List (List ℕ) → Line
+flag x ws = flagBit x (fieldNumber Bit (first ws)) (others ws)
 
-unfoldable pub write : Number → Line
-write Not = unreadable
-write (Is n) = bare (Kind.Write n)
+-- "write ROOM"
+unfoldable pub writeRoom : Number → List (List ℕ) → Line
+writeRoom Not ws = notDue 2 (Due.Field (Decimal 1000))
+writeRoom (Is n) ws = alone (Kind.Write n) 3 ws
+
+unfoldable pub write : List (List ℕ) → Line
+write ws = writeRoom (number 1000 (first ws)) (others ws)
 
 -- the feature that `set` names; any other word is its number
 unfoldable pub formOf : List ℕ → Form
 formOf w =
-    if same w (partName Part.Groups) then Form.Groups
-    else if same w (partName Part.Flow) then Form.Flow
-    else if same w (partName Part.Applications) then Form.Applications
+    if same w (nameText Name.Groups) then Form.Groups
+    else if same w (nameText Name.Flow) then Form.Flow
+    else if same w (nameText Name.Applications) then Form.Applications
     else Form.Plain
 
-unfoldable pub changeOf : Form → List (List ℕ) → Line
-changeOf Form.Groups ws = feature Form.Groups (Is 2) (others ws)
-changeOf Form.Flow ws = feature Form.Flow (Is 3) (others ws)
-changeOf Form.Applications ws = feature Form.Applications (Is 4) (others ws)
-changeOf Form.Plain ws = plain (number 255 (first ws)) (others ws)
+-- "behind set: a feature is due (not groups, flow, applications or a number up to 255)"
+unfoldable pub numbered : Number → List (List ℕ) → Line
+numbered Not ws = notDue 2 Due.Feature
+numbered (Is n) ws = plain (n % 256) ws
 
+unfoldable pub changeOf : Form → List (List ℕ) → Line
+changeOf Form.Groups ws = feature Form.Groups 3 2 (others ws)
+changeOf Form.Flow ws = feature Form.Flow 3 3 (others ws)
+changeOf Form.Applications ws = feature Form.Applications 3 4 (others ws)
+changeOf Form.Plain ws = numbered (number 255 (first ws)) (others ws)
+
+-- the words behind the first; "a line whose first word is B and that is no frame of a capture: word 2, a frame is due"
 unfoldable pub eventOf : Keyword → List (List ℕ) → Line
-eventOf Keyword.Gone ws = alone Kind.Gone ws
-eventOf Keyword.Take ws = alone Kind.Take ws
-eventOf Keyword.Show ws = alone Kind.Show ws
+eventOf Keyword.Gone ws = alone Kind.Gone 2 ws
+eventOf Keyword.Take ws = alone Kind.Take 2 ws
+eventOf Keyword.Show ws = alone Kind.Show 2 ws
 eventOf Keyword.Set ws = changeOf (formOf (first ws)) ws
-eventOf Keyword.Write ws = write (oneField (Decimal 1000) ws)
-eventOf (Keyword.Flag x) ws = flag x (oneField Bit ws)
-eventOf Keyword.Other ws = unreadable
+eventOf Keyword.Write ws = write ws
+eventOf (Keyword.Flag x) ws = flag x ws
+eventOf Keyword.Frame ws = notDue 2 Due.Frame
+eventOf Keyword.Other ws = notDue 1 Due.Event
 
 -- "One frame a line: A or B for the sender, one space, 0 to 513 pairs of lower-case hex digits, and nothing else."
 unfoldable pub isFrame : List ℕ → Bool
-isFrame s = same (take 2 s) (66 ∷ 32 ∷ []) && isOctets 513 (drop 2 s)
+isFrame s = same (take 2 s) (text "B ") && isOctets 513 (drop 2 s)
 
 unfoldable pub eventLine : List ℕ → Line
 eventLine s =
-    if 1100 below length s then unreadable
+    if 1100 below length s then unreadable Unread.Long
+    else if returned s then unreadable Unread.Return
     else if isFrame s then lineOf Kind.Frame (octetsOf (drop 2 s))
     else eventOf (keyword (first (words s))) (others (words s))

@@ -1,22 +1,43 @@
-// The words of a setting behind its name, and the parameters that they give.
+// The words of a setting behind `max N`, or behind `set` and its feature, and the parameters that they give.
 ghost use mathlib.Core.Path.{_≡_};
 ghost use Prim.Native.Nat.{_≤_, _<_, _%_};
 ghost use lib.Dec.{eqb};
-ghost use lib.ListN.{length};
-ghost use Rattle.octets.specs.Octets.{at};
+ghost use lib.ListN.{length, getD};
+ghost use Rattle.octets.specs.Octets.{at, same};
 ghost use Rattle.script.specs.Text.{words, listed};
 ghost use Rattle.script.specs.Lines.{filled};
-ghost use Rattle.script.specs.Forms.{fieldNumber, oneField, fits, due, noValues, counted, valuesOf, parameterCount, entryOctet, parameterAt, parametersOf};
+ghost use Rattle.script.specs.Forms.{nameText, said, selector, fieldNumber, switches, due, mayEnd, valuesOf, parameterCount, entryOctet, groupsOctet, parameterAt};
 use crate::text;
 use crate::text::Number;
 
-// What a word is to be: a bit, a number up to a limit, two or four hex digits, or the octets of parameters.
+// The words of settings that stand as they are.
+pub enum Name {
+    Control,
+    Groups,
+    Flow,
+    Applications,
+    Max,
+    Advertise,
+    Enable,
+    Willing,
+    Priorities,
+    Percentages,
+    Mask,
+    Classes,
+}
+
+// What a word is to be: a fixed word, a bit, a number up to a limit, two or four hex digits, or the octets of parameters. Where
+// a selector or `parameters` is due the line may also end, and nothing stands behind its end.
 pub enum Field {
+    Word(Name),
     Bit,
     Decimal(u16),
     Hex2,
     Hex4,
+    Selector,
+    Parameters,
     Octets,
+    End,
 }
 
 // The words of a setting: those of each feature, or its parameters as octets.
@@ -27,11 +48,13 @@ pub enum Form {
     Plain,
 }
 
-// The numbers of `count` words, zero past them; none where a word is not what is due.
+// The words of a line up to the first that is not what is due: its place, what is due there, and the numbers of those before it,
+// zero past them. `good` says that the line ends there, and may.
 pub struct Values {
     pub good: bool,
-    pub count: usize,
-    pub numbers: [usize; 55],
+    pub place: usize,
+    pub due: Field,
+    pub numbers: [usize; 58],
 }
 
 // The number at `i`, and 0 past the end.
@@ -86,25 +109,68 @@ fn hex4(w: &[u8]) -> Number
     Number::Is(high * 256 + low)
 }
 
-fn octets_word(w: &[u8]) -> Number
-    ensures { λ r. ⌜ r ≡ fieldNumber Field.Octets (now (w .entry)) ⌝ }
+// Whether a word is one of those that stand as they are.
+pub fn is_name(n: Name, w: &[u8]) -> bool
+    ensures { λ r. ⌜ r ≡ same (now (w .entry)) (nameText n) ⌝ }
 {
-    if text::is_octets(w, 507) {
+    match n {
+        Name::Control => octets::same_octets(w, b"control"),
+        Name::Groups => octets::same_octets(w, b"groups"),
+        Name::Flow => octets::same_octets(w, b"flow"),
+        Name::Applications => octets::same_octets(w, b"applications"),
+        Name::Max => octets::same_octets(w, b"max"),
+        Name::Advertise => octets::same_octets(w, b"advertise"),
+        Name::Enable => octets::same_octets(w, b"enable"),
+        Name::Willing => octets::same_octets(w, b"willing"),
+        Name::Priorities => octets::same_octets(w, b"priorities"),
+        Name::Percentages => octets::same_octets(w, b"percentages"),
+        Name::Mask => octets::same_octets(w, b"mask"),
+        Name::Classes => octets::same_octets(w, b"classes"),
+    }
+}
+
+fn selector(w: &[u8]) -> Number
+    ensures { λ r. ⌜ r ≡ selector (now (w .entry)) ⌝ }
+{
+    if octets::same_octets(w, b"ethertype") {
+        return Number::Is(0);
+    }
+    if octets::same_octets(w, b"port") {
+        return Number::Is(1);
+    }
+    if octets::same_octets(w, b"selector-2") {
+        return Number::Is(2);
+    }
+    if octets::same_octets(w, b"selector-3") {
+        return Number::Is(3);
+    }
+    Number::Not
+}
+
+// A word that says no number is 0 where it is what is due.
+fn said(due: bool) -> Number
+    ensures { λ r. ⌜ r ≡ said due ⌝ }
+{
+    if due {
         return Number::Is(0);
     }
     Number::Not
 }
 
 // What a word says, if it is what is due.
-fn read_field(f: Field, w: &[u8]) -> Number
+pub fn read_field(f: Field, w: &[u8]) -> Number
     ensures { λ r. ⌜ r ≡ fieldNumber f (now (w .entry)) ⌝ }
 {
     match f {
+        Field::Word(n) => said(is_name(n, w)),
         Field::Bit => bit(w),
         Field::Decimal(limit) => text::read_number(w, limit),
         Field::Hex2 => hex2(w),
         Field::Hex4 => hex4(w),
-        Field::Octets => octets_word(w),
+        Field::Selector => selector(w),
+        Field::Parameters => said(octets::same_octets(w, b"parameters")),
+        Field::Octets => said(text::is_octets(w, 507)),
+        Field::End => Number::Not,
     }
 }
 
@@ -116,82 +182,82 @@ pub fn is_over(s: &[u8]) -> bool
     w.len() == 0
 }
 
-// The number of the one word that is left.
-pub fn one_field(f: Field, s: &[u8]) -> Number
-    ensures { λ r. ⌜ r ≡ oneField f (words (now (s .entry))) ⌝ }
+// `advertise B enable B willing B`
+fn due_switch(i: usize) -> Field
+    requires { ⌜ i < 6 ⌝ }
+    ensures { λ r. ⌜ r ≡ getD switches i Field.End ⌝ }
 {
-    if !is_over(text::behind(s)) {
-        return Number::Not;
+    if i == 0 {
+        return Field::Word(Name::Advertise);
     }
-    read_field(f, text::word(s))
-}
-
-// At most 17 entries of three words, behind three bits.
-fn fits_applications(n: usize) -> bool
-    ensures { λ r. ⌜ r ≡ fits Form.Applications n ⌝ }
-{
-    if n < 3 {
-        return false;
+    if i == 2 {
+        return Field::Word(Name::Enable);
     }
-    if 54 < n {
-        return false;
+    if i == 4 {
+        return Field::Word(Name::Willing);
     }
-    n % 3 == 0
-}
-
-fn fits_plain(n: usize) -> bool
-    ensures { λ r. ⌜ r ≡ fits Form.Plain n ⌝ }
-{
-    if n == 3 {
-        return true;
-    }
-    n == 4
-}
-
-// Whether a setting has so many words.
-fn fits(f: Form, n: usize) -> bool
-    ensures { λ r. ⌜ r ≡ fits f n ⌝ }
-{
-    match f {
-        Form::Groups => n == 20,
-        Form::Flow => n == 5,
-        Form::Applications => fits_applications(n),
-        Form::Plain => fits_plain(n),
-    }
+    Field::Bit
 }
 
 fn due_groups(i: usize) -> Field
     ensures { λ r. ⌜ r ≡ due Form.Groups i ⌝ }
 {
-    if i < 3 {
-        return Field::Bit;
+    if i < 6 {
+        return due_switch(i);
     }
-    if i < 11 {
+    if i == 6 {
+        return Field::Word(Name::Priorities);
+    }
+    if i < 15 {
         return Field::Decimal(15);
     }
-    Field::Decimal(255)
+    if i == 15 {
+        return Field::Word(Name::Percentages);
+    }
+    if i < 24 {
+        return Field::Decimal(255);
+    }
+    if i == 24 {
+        return Field::Word(Name::Classes);
+    }
+    if i == 25 {
+        return Field::Decimal(255);
+    }
+    Field::End
 }
 
 fn due_flow(i: usize) -> Field
     ensures { λ r. ⌜ r ≡ due Form.Flow i ⌝ }
 {
-    if i < 3 {
-        return Field::Bit;
+    if i < 6 {
+        return due_switch(i);
     }
-    if i == 3 {
+    if i == 6 {
+        return Field::Word(Name::Mask);
+    }
+    if i == 7 {
         return Field::Hex2;
     }
-    Field::Decimal(255)
+    if i == 8 {
+        return Field::Word(Name::Classes);
+    }
+    if i == 9 {
+        return Field::Decimal(255);
+    }
+    Field::End
 }
 
 fn due_applications(i: usize) -> Field
     ensures { λ r. ⌜ r ≡ due Form.Applications i ⌝ }
 {
-    if i < 3 {
-        return Field::Bit;
+    if i < 6 {
+        return due_switch(i);
+    }
+    if 57 <= i {
+        return Field::End;
     }
     if i % 3 == 0 {
-        return Field::Decimal(3);
+        return Field::Selector;
     }
     if i % 3 == 1 {
         return Field::Hex4;
@@ -202,13 +268,19 @@ fn due_applications(i: usize) -> Field
 fn due_plain(i: usize) -> Field
     ensures { λ r. ⌜ r ≡ due Form.Plain i ⌝ }
 {
-    if i < 3 {
-        return Field::Bit;
+    if i < 6 {
+        return due_switch(i);
     }
-    Field::Octets
+    if i == 6 {
+        return Field::Parameters;
+    }
+    if i == 7 {
+        return Field::Octets;
+    }
+    Field::End
 }
 
-// What word `i` of a setting is to be.
+// What the word at place `i` of a setting is to be.
 fn due(f: Form, i: usize) -> Field
     ensures { λ r. ⌜ r ≡ due f i ⌝ }
 {
@@ -220,71 +292,80 @@ fn due(f: Form, i: usize) -> Field
     }
 }
 
-fn no_values() -> Values
-    ensures { λ r. ⌜ r ≡ noValues ⌝ }
+// Whether a line may end where a field is due.
+fn may_end(f: Field) -> bool
+    ensures { λ r. ⌜ r ≡ mayEnd f ⌝ }
 {
-    Values {
-        good: false,
-        count: 0,
-        numbers: [0; 55],
+    match f {
+        Field::Word(_) => false,
+        Field::Bit => false,
+        Field::Decimal(_) => false,
+        Field::Hex2 => false,
+        Field::Hex4 => false,
+        Field::Selector => true,
+        Field::Parameters => true,
+        Field::Octets => false,
+        Field::End => true,
     }
 }
 
-// The words of a setting, whose count decides at the end.
-fn ended(f: Form, n: usize, numbers: [usize; 55]) -> Values
-    ensures { λ r. ⌜ r ≡ counted f n numbers ⌝ }
-{
-    if fits(f, n) {
-        return Values {
-            good: true,
-            count: n,
-            numbers: numbers,
-        };
-    }
-    no_values()
-}
-
-// Reads the words of a setting. No form has as many as 55.
+// Reads the words of a setting. At place 57 every form has ended, so no word gets to place 58.
 pub fn read_form(f: Form, s: &[u8]) -> Values
-    ensures { λ r. ⌜ r ≡ valuesOf f (words (now (s .entry))) ⌝ }
+    ensures { λ r. ⌜ (r ≡ valuesOf f (words (now (s .entry)))) × (r .place ≤ 57) ⌝ }
 {
-    let mut numbers = [0; 55];
+    let mut numbers = [0; 58];
     let mut i: usize = 0;
     let mut left = s;
-    while i < 55 {
+    while i < 58 {
+        let d = due(f, i);
         let w = text::word(left);
         if w.len() == 0 {
-            return ended(f, i, numbers);
+            return Values {
+                good: may_end(d),
+                place: i,
+                due: d,
+                numbers: numbers,
+            };
         }
-        match read_field(due(f, i), w) {
+        match read_field(d, w) {
             Number::Is(n) => {
                 numbers[i] = n;
             }
             Number::Not => {
-                return no_values();
+                return Values {
+                    good: false,
+                    place: i,
+                    due: d,
+                    numbers: numbers,
+                };
             }
         }
         let next = text::behind(left);
         left = next;
         i += 1;
     }
-    no_values()
+    Values {
+        good: false,
+        place: i,
+        due: Field::End,
+        numbers: numbers,
+    }
 }
 
 // Six octets for each entry of three words.
 fn entries_length(n: usize) -> usize
-    requires { ⌜ n ≤ 54 ⌝ }
+    requires { ⌜ n ≤ 57 ⌝ }
     ensures { λ r. ⌜ (r ≡ parameterCount Form.Applications n) × (r ≤ 102) ⌝ }
 {
-    if n < 3 {
+    if n < 6 {
         return 0;
     }
-    (n - 3) / 3 * 6
+    (n - 6) / 3 * 6
 }
 
-// How many octets the parameters have, of as many fields as a line can hold.
+// How many octets the parameters have, of as many words as a form can have.
 pub fn parameter_count(f: Form, n: usize) -> usize
-    requires { ⌜ n ≤ 54 ⌝ }
+    requires { ⌜ n ≤ 57 ⌝ }
     ensures { λ r. ⌜ (r ≡ parameterCount f n) × (r ≤ 102) ⌝ }
 {
     match f {
@@ -322,14 +403,17 @@ fn entry_octet(v: &[usize], j: usize, k: usize) -> u8
 // Octet `i` of the group numbers, two an octet, and of the percentages and the number of classes.
 fn groups_octet(v: &[usize], i: usize) -> u8
     requires { ⌜ i < 1024 ⌝ }
-    ensures { λ r. ⌜ r ≡ parameterAt Form.Groups (now (v .entry)) i ⌝ }
+    ensures { λ r. ⌜ r ≡ groupsOctet (now (v .entry)) i ⌝ }
 {
     if i < 4 {
-        let high = number_at(v, 3 + 2 * i) % 16;
-        let low = number_at(v, 4 + 2 * i) % 16;
+        let high = number_at(v, 7 + 2 * i) % 16;
+        let low = number_at(v, 8 + 2 * i) % 16;
         return (high * 16 + low) as u8;
     }
-    low(number_at(v, 7 + i))
+    if i < 12 {
+        return low(number_at(v, 12 + i));
+    }
+    low(number_at(v, 13 + i))
 }
 
 // Octet `i` of the parameters.
@@ -339,8 +423,8 @@ fn parameter_at(f: Form, v: &[usize], i: usize) -> u8
 {
     match f {
         Form::Groups => groups_octet(v, i),
-        Form::Flow => low(number_at(v, 3 + i)),
-        Form::Applications => entry_octet(v, 3 + i / 6 * 3, i % 6),
+        Form::Flow => low(number_at(v, 7 + 2 * i)),
+        Form::Applications => entry_octet(v, 6 + i / 6 * 3, i % 6),
         Form::Plain => 0,
     }
 }

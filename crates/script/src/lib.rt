@@ -1,11 +1,14 @@
 // Lines of text: settings and events, as docs/FORMATS.md fixes them.
 ghost use mathlib.Core.Path.{_≡_};
+ghost use Prim.Native.Nat.{_≤_};
 ghost use lib.ListN.{length, drop};
 ghost use Rattle.octets.specs.Octets.{same};
 ghost use Rattle.script.specs.Text.{words, first, octetsOf};
-ghost use Rattle.script.specs.Lines.{portWord, portNumber, behindPort, beginsSettings, passedOver, filled, bare, settingKind, feature, plain, control, partName, settingOf, settingLine, keyword, flagWord, alone, flag, write, formOf, changeOf, eventOf, isFrame, eventLine};
+ghost use Rattle.script.specs.Forms.{nameText};
+ghost use Rattle.script.specs.Lines.{portWord, portNumber, behindPort, beginsSettings, passedOver, returned, filled, bare, notDue, settingKind, feature, plain, numbered, partName, settingOf, behindMax, behindName, settingLine, keyword, flagWord, alone, flag, write, formOf, changeOf, eventOf, isFrame, eventLine};
 use forms::Field;
 use forms::Form;
+use forms::Name;
 use text::Number;
 
 pub mod forms;
@@ -35,6 +38,7 @@ pub enum Keyword {
     Set,
     Write,
     Flag(Flag),
+    Frame,
     Other,
 }
 
@@ -44,9 +48,25 @@ pub struct PortWord {
     pub number: u8,
 }
 
-// What a line says. `number` is MAX in a line of the settings, and the feature's number in an event.
+// What is due at a word: a field of the line's form, an event's first word, the feature behind `set`, or the frame behind `B`.
+pub enum Due {
+    Field(Field),
+    Event,
+    Feature,
+    Frame,
+}
+
+// Why a line cannot be read: it is too long, it ends with a carriage return, or a word is not what is due. That is the first such
+// word, counted from 1; a word that is missing has the number behind the last.
+pub enum Unread {
+    Long,
+    Return,
+    Word(usize, Due),
+}
+
+// What a line says. `number` is the highest version in a line of the settings, and the feature's number in an event.
 pub enum Kind {
-    Unreadable,
+    Unreadable(Unread),
     Control(u8),
     Setting {
         number: u8,
@@ -82,21 +102,11 @@ pub fn is_passed_over(line: &[u8]) -> bool
     octets::octet(line, 0) == 35
 }
 
-// The port that a line begins with: its first word, where that is a number up to 255.
-fn port_number(line: &[u8]) -> Number
-    ensures { λ r. ⌜ r ≡ portNumber (now (line .entry)) ⌝ }
-{
-    if LONGEST < line.len() {
-        return Number::Not;
-    }
-    text::read_number(text::word(line), 255)
-}
-
-// The port that a line names, or means.
+// The port that a line names, or means: its first word, where that is a number up to 255.
 pub fn port_of(line: &[u8]) -> PortWord
     ensures { λ r. ⌜ r ≡ portWord (portNumber (now (line .entry))) ⌝ }
 {
-    match port_number(line) {
+    match text::read_number(text::word(line), 255) {
         Number::Not => PortWord {
             given: false,
             number: 1,
@@ -108,14 +118,17 @@ pub fn port_of(line: &[u8]) -> PortWord
     }
 }
 
-// What a line says at its port: all of it where no port is given.
+// What a line says at its port: all of it where no port is given, or where it is too long.
 pub fn behind_port(line: &[u8], given: bool) -> &[u8]
     ensures { λ r. ⌜ now r ≡ behindPort given (now (line .entry)) ⌝ }
 {
-    if given {
-        return text::trim(text::behind(line));
+    if !given {
+        return line;
     }
-    line
+    if LONGEST < line.len() {
+        return line;
+    }
+    text::trim(text::behind(line))
 }
 
 // A line without octets.
@@ -129,127 +142,155 @@ fn bare(kind: Kind) -> Line
     }
 }
 
-fn setting_kind(number: u8, v: [usize; 55]) -> Kind
+// A line whose word with a number is the first that is not what is due.
+fn not_due(word: usize, due: Due) -> Line
+    ensures { λ r. ⌜ r ≡ notDue word due ⌝ }
+{
+    bare(Kind::Unreadable(Unread::Word(word, due)))
+}
+
+fn setting_kind(number: u8, v: [usize; 58]) -> Kind
     ensures { λ r. ⌜ r ≡ settingKind number v ⌝ }
 {
     Kind::Setting {
         number: number,
-        advertise: v[0] == 1,
-        enable: v[1] == 1,
-        willing: v[2] == 1,
+        advertise: v[1] == 1,
+        enable: v[3] == 1,
+        willing: v[5] == 1,
     }
 }
 
-// The words of a setting behind its name and its MAX, or its number.
-fn feature(f: Form, number: Number, s: &[u8]) -> Line
-    ensures { λ r. ⌜ r ≡ feature f number (words (now (s .entry))) ⌝ }
+// The words of a setting from `advertise` on, which is the word with a number.
+fn feature(f: Form, word: usize, number: u8, s: &[u8]) -> Line
+    requires { ⌜ word ≤ 4 ⌝ }
+    ensures { λ r. ⌜ r ≡ feature f word number (words (now (s .entry))) ⌝ }
 {
-    match number {
-        Number::Not => {
-            return bare(Kind::Unreadable);
-        }
-        Number::Is(max) => {
-            let v = forms::read_form(f, s);
-            if !v.good {
-                return bare(Kind::Unreadable);
-            }
-            let numbers = v.numbers;
-            let n = forms::parameter_count(f, v.count);
-            let octets = forms::parameters(f, n, &numbers);
-            let kind = setting_kind(forms::low(max), numbers);
-            return Line {
-                kind: kind,
-                n: n,
-                octets: octets,
-            };
-        }
+    let v = forms::read_form(f, s);
+    let due = v.due;
+    if !v.good {
+        return not_due(word + v.place, Due::Field(due));
+    }
+    let numbers = v.numbers;
+    let n = forms::parameter_count(f, v.place);
+    let octets = forms::parameters(f, n, &numbers);
+    let kind = setting_kind(number, numbers);
+    Line {
+        kind: kind,
+        n: n,
+        octets: octets,
     }
 }
 
-// The words of a setting behind its feature's number, its parameters as octets, which may be missing.
-fn plain(number: Number, s: &[u8]) -> Line
+// The words behind `set NUMBER`, the parameters as octets, which may be missing.
+fn plain(number: u8, s: &[u8]) -> Line
     ensures { λ r. ⌜ r ≡ plain number (words (now (s .entry))) ⌝ }
 {
-    match number {
-        Number::Not => {
-            return bare(Kind::Unreadable);
-        }
-        Number::Is(feature) => {
-            let v = forms::read_form(Form::Plain, s);
-            if !v.good {
-                return bare(Kind::Unreadable);
-            }
-            let numbers = v.numbers;
-            let w = text::word(text::behind(text::behind(text::behind(s))));
-            let n = text::octets_count(w);
-            let octets = text::octets_of(w);
-            let kind = setting_kind(forms::low(feature), numbers);
-            return Line {
-                kind: kind,
-                n: n,
-                octets: octets,
-            };
-        }
+    let v = forms::read_form(Form::Plain, s);
+    let due = v.due;
+    if !v.good {
+        return not_due(3 + v.place, Due::Field(due));
+    }
+    let numbers = v.numbers;
+    let w = text::word_at(s, 7);
+    let n = text::octets_count(w);
+    let octets = text::octets_of(w);
+    let kind = setting_kind(number, numbers);
+    Line {
+        kind: kind,
+        n: n,
+        octets: octets,
     }
 }
 
-// `control MAX`.
-fn control(n: Number) -> Line
-    ensures { λ r. ⌜ r ≡ control n ⌝ }
+// A line that ends before the word with a number.
+fn alone(kind: Kind, word: usize, s: &[u8]) -> Line
+    ensures { λ r. ⌜ r ≡ alone kind word (words (now (s .entry))) ⌝ }
 {
-    match n {
-        Number::Not => bare(Kind::Unreadable),
-        Number::Is(max) => bare(Kind::Control(forms::low(max))),
+    if forms::is_over(s) {
+        return bare(kind);
     }
+    not_due(word, Due::Field(Field::End))
 }
 
-// Whether a word is the name of a line of the settings.
-fn is_part(p: Part, w: &[u8]) -> bool
-    ensures { λ r. ⌜ r ≡ same (now (w .entry)) (partName p) ⌝ }
+// The first word of a line of the settings.
+pub fn part_name(p: Part) -> Name
+    ensures { λ r. ⌜ r ≡ partName p ⌝ }
 {
     match p {
-        Part::Control => octets::same_octets(w, b"control"),
-        Part::Groups => octets::same_octets(w, b"groups"),
-        Part::Flow => octets::same_octets(w, b"flow"),
-        Part::Applications => octets::same_octets(w, b"applications"),
+        Part::Control => Name::Control,
+        Part::Groups => Name::Groups,
+        Part::Flow => Name::Flow,
+        Part::Applications => Name::Applications,
     }
 }
 
-fn setting_of(p: Part, s: &[u8]) -> Line
-    ensures { λ r. ⌜ r ≡ settingOf p (words (now (s .entry))) ⌝ }
+// The words behind `NAME max N`.
+fn setting_of(p: Part, max: u8, s: &[u8]) -> Line
+    ensures { λ r. ⌜ r ≡ settingOf p max (words (now (s .entry))) ⌝ }
 {
-    let max = text::read_number(text::word(s), 255);
-    let more = text::behind(s);
     match p {
-        Part::Control => control(forms::one_field(Field::Decimal(255), s)),
-        Part::Groups => feature(Form::Groups, max, more),
-        Part::Flow => feature(Form::Flow, max, more),
-        Part::Applications => feature(Form::Applications, max, more),
+        Part::Control => alone(Kind::Control(max), 4, s),
+        Part::Groups => feature(Form::Groups, 4, max, s),
+        Part::Flow => feature(Form::Flow, 4, max, s),
+        Part::Applications => feature(Form::Applications, 4, max, s),
     }
 }
 
-// The line of the settings that is due (docs/FORMATS.md, Settings of one end).
+fn behind_max(p: Part, s: &[u8]) -> Line
+    ensures { λ r. ⌜ r ≡ behindMax p (words (now (s .entry))) ⌝ }
+{
+    match text::read_number(text::word(s), 255) {
+        Number::Not => not_due(3, Due::Field(Field::Decimal(255))),
+        Number::Is(max) => setting_of(p, forms::low(max), text::behind(s)),
+    }
+}
+
+fn behind_name(p: Part, s: &[u8]) -> Line
+    ensures { λ r. ⌜ r ≡ behindName p (words (now (s .entry))) ⌝ }
+{
+    if forms::is_name(Name::Max, text::word(s)) {
+        return behind_max(p, text::behind(s));
+    }
+    not_due(2, Due::Field(Field::Word(Name::Max)))
+}
+
+// Whether the last octet is a carriage return.
+fn is_returned(line: &[u8]) -> bool
+    ensures { λ r. ⌜ r ≡ returned (now (line .entry)) ⌝ }
+{
+    let n = line.len();
+    if n == 0 {
+        return false;
+    }
+    octets::octet(line, n - 1) == 13
+}
+
+// The line of the settings that is due (docs/FORMATS.md, Settings of one port).
 pub fn parse_setting(due: Part, line: &[u8]) -> Line
     ensures { λ r. ⌜ r ≡ settingLine due (now (line .entry)) ⌝ }
 {
     if LONGEST < line.len() {
-        return bare(Kind::Unreadable);
+        return bare(Kind::Unreadable(Unread::Long));
     }
-    if !is_part(due, text::word(line)) {
-        return bare(Kind::Unreadable);
+    if is_returned(line) {
+        return bare(Kind::Unreadable(Unread::Return));
     }
-    setting_of(due, text::behind(line))
+    let name = part_name(due);
+    if forms::is_name(name, text::word(line)) {
+        return behind_name(due, text::behind(line));
+    }
+    not_due(1, Due::Field(Field::Word(name)))
 }
 
 // Whether a line, which may be an event, begins the settings of a port.
 pub fn begins_settings(line: &[u8]) -> bool
     ensures { λ r. ⌜ r ≡ beginsSettings (now (line .entry)) ⌝ }
 {
-    if LONGEST < line.len() {
-        return false;
-    }
     let w = port_of(line);
-    is_part(Part::Control, text::word(behind_port(line, w.given)))
+    if w.given {
+        return forms::is_name(Name::Control, text::word(text::behind(line)));
+    }
+    forms::is_name(Name::Control, text::word(line))
 }
 
 fn keyword_of(w: &[u8]) -> Keyword
@@ -288,34 +329,29 @@ fn flag_of(w: &[u8]) -> Keyword
     if octets::same_octets(w, b"several") {
         return Keyword::Flag(Flag::Several);
     }
+    if octets::same_octets(w, b"B") {
+        return Keyword::Frame;
+    }
     Keyword::Other
 }
 
-// A line of one word.
-fn alone(kind: Kind, s: &[u8]) -> Line
-    ensures { λ r. ⌜ r ≡ alone kind (words (now (s .entry))) ⌝ }
+// A flag and its bit, which is the second word.
+fn flag_line(x: Flag, s: &[u8]) -> Line
+    ensures { λ r. ⌜ r ≡ flag x (words (now (s .entry))) ⌝ }
 {
-    if forms::is_over(s) {
-        return bare(kind);
-    }
-    bare(Kind::Unreadable)
-}
-
-fn flag_line(x: Flag, n: Number) -> Line
-    ensures { λ r. ⌜ r ≡ flag x n ⌝ }
-{
-    match n {
-        Number::Not => bare(Kind::Unreadable),
-        Number::Is(on) => bare(Kind::Flag(x, on == 1)),
+    match forms::read_field(Field::Bit, text::word(s)) {
+        Number::Not => not_due(2, Due::Field(Field::Bit)),
+        Number::Is(on) => alone(Kind::Flag(x, on == 1), 3, text::behind(s)),
     }
 }
 
-fn write_line(n: Number) -> Line
-    ensures { λ r. ⌜ r ≡ write n ⌝ }
+// `write ROOM`
+fn write_line(s: &[u8]) -> Line
+    ensures { λ r. ⌜ r ≡ write (words (now (s .entry))) ⌝ }
 {
-    match n {
-        Number::Not => bare(Kind::Unreadable),
-        Number::Is(room) => bare(Kind::Write(room)),
+    match text::read_number(text::word(s), 1000) {
+        Number::Not => not_due(2, Due::Field(Field::Decimal(1000))),
+        Number::Is(room) => alone(Kind::Write(room), 3, text::behind(s)),
     }
 }
 
@@ -323,16 +359,26 @@ fn write_line(n: Number) -> Line
 fn form_of(w: &[u8]) -> Form
     ensures { λ r. ⌜ r ≡ formOf (now (w .entry)) ⌝ }
 {
-    if is_part(Part::Groups, w) {
+    if forms::is_name(Name::Groups, w) {
         return Form::Groups;
     }
-    if is_part(Part::Flow, w) {
+    if forms::is_name(Name::Flow, w) {
         return Form::Flow;
     }
-    if is_part(Part::Applications, w) {
+    if forms::is_name(Name::Applications, w) {
         return Form::Applications;
     }
     Form::Plain
+}
+
+// `set NUMBER` and the words behind it.
+fn numbered(number: Number, s: &[u8]) -> Line
+    ensures { λ r. ⌜ r ≡ numbered number (words (now (s .entry))) ⌝ }
+{
+    match number {
+        Number::Not => not_due(2, Due::Feature),
+        Number::Is(n) => plain(forms::low(n), s),
+    }
 }
 
 fn change(s: &[u8]) -> Line
@@ -341,10 +387,10 @@ fn change(s: &[u8]) -> Line
     let w = text::word(s);
     let more = text::behind(s);
     match form_of(w) {
-        Form::Groups => feature(Form::Groups, Number::Is(2), more),
-        Form::Flow => feature(Form::Flow, Number::Is(3), more),
-        Form::Applications => feature(Form::Applications, Number::Is(4), more),
-        Form::Plain => plain(text::read_number(w, 255), more),
+        Form::Groups => feature(Form::Groups, 3, 2, more),
+        Form::Flow => feature(Form::Flow, 3, 3, more),
+        Form::Applications => feature(Form::Applications, 3, 4, more),
+        Form::Plain => numbered(text::read_number(w, 255), more),
     }
 }
 
@@ -353,13 +399,14 @@ fn event_of(k: Keyword, s: &[u8]) -> Line
     ensures { λ r. ⌜ r ≡ eventOf k (words (now (s .entry))) ⌝ }
 {
     match k {
-        Keyword::Gone => alone(Kind::Gone, s),
-        Keyword::Take => alone(Kind::Take, s),
-        Keyword::Show => alone(Kind::Show, s),
+        Keyword::Gone => alone(Kind::Gone, 2, s),
+        Keyword::Take => alone(Kind::Take, 2, s),
+        Keyword::Show => alone(Kind::Show, 2, s),
         Keyword::Set => change(s),
-        Keyword::Write => write_line(forms::one_field(Field::Decimal(1000), s)),
-        Keyword::Flag(x) => flag_line(x, forms::one_field(Field::Bit, s)),
-        Keyword::Other => bare(Kind::Unreadable),
+        Keyword::Write => write_line(s),
+        Keyword::Flag(x) => flag_line(x, s),
+        Keyword::Frame => not_due(2, Due::Frame),
+        Keyword::Other => not_due(1, Due::Event),
     }
 }
 
@@ -392,7 +439,10 @@ pub fn parse_event(line: &[u8]) -> Line
     ensures { λ r. ⌜ r ≡ eventLine (now (line .entry)) ⌝ }
 {
     if LONGEST < line.len() {
-        return bare(Kind::Unreadable);
+        return bare(Kind::Unreadable(Unread::Long));
+    }
+    if is_returned(line) {
+        return bare(Kind::Unreadable(Unread::Return));
     }
     if is_frame(line) {
         let n = frame_length(line);

@@ -1,8 +1,8 @@
 // Words, numbers and octets of a line.
 ghost use mathlib.Core.Path.{_≡_};
 ghost use Prim.Native.Nat.{_+_, _*_, _/_, _%_, _<_, min};
-ghost use lib.ListN.{length};
-ghost use Rattle.script.specs.Text.{isDigit, number, nibble, hexDigits, pairAt, octetsOf, isOctets};
+ghost use lib.ListN.{length, drop};
+ghost use Rattle.script.specs.Text.{words, first, isDigit, number, nibble, hexDigits, pairAt, octetsOf, isOctets};
 ghost use Rattle.script.specs.StepsLaws.{run, trimmed, firstWord, rest, Nibbles};
 ghost use Rattle.script.specs.Lines.{filled};
 
@@ -50,6 +50,20 @@ pub fn behind(s: &[u8]) -> &[u8]
 {
     let t = trim(s);
     octets::from(t, run(t, false))
+}
+
+// The word behind the first `n`.
+pub fn word_at(s: &[u8], n: usize) -> &[u8]
+    ensures { λ r. ⌜ now r ≡ first (drop n (words (now (s .entry)))) ⌝ }
+{
+    let mut left = s;
+    let mut i: usize = 0;
+    while i < n {
+        let next = behind(left);
+        left = next;
+        i += 1;
+    }
+    word(left)
 }
 
 fn is_digit(c: u8) -> bool

@@ -2,46 +2,38 @@
 //! what each side has.
 
 use crate::script::{Script, Step, What};
-use reference::events::{Event, OwnedSetting, OwnedSettings};
-use reference::{Flag, Recorder};
+use reference::events::{Event, OwnedSetting};
+use reference::text::Text;
+use reference::{Flag, Port, Recorder};
 use std::fmt::Write;
 
 pub fn hex(octets: &[u8]) -> String {
     octets.iter().map(|octet| format!("{octet:02x}")).collect()
 }
 
-fn bits(setting: &OwnedSetting) -> String {
-    let bit = u8::from;
-    format!("{} {} {}", bit(setting.advertise), bit(setting.enable), bit(setting.willing))
+/// A setting's octets as `set NUMBER` has them.
+fn setting_words(setting: &OwnedSetting) -> String {
+    let mut text = Text::default();
+    text.put("advertise ").number(setting.advertise);
+    text.field("enable", setting.enable).field("willing", setting.willing);
+    if !setting.parameters.is_empty() {
+        text.put(" parameters ").octets(&setting.parameters);
+    }
+    string(text)
 }
 
-/// Valid settings of a port as four lines. Their entries have OUI 00 1b 21.
-fn settings_lines(port: u8, settings: &OwnedSettings) -> String {
-    let [(groups_max, groups), (flow_max, flow), (applications_max, applications)] =
-        &settings.feature;
-    let mut text = format!("{port} control {}\n", settings.control_max);
-    write!(text, "{port} groups {groups_max} {}", bits(groups)).unwrap();
-    let parameters = &groups.parameters;
-    for octet in &parameters[..4] {
-        write!(text, " {} {}", octet >> 4, octet & 15).unwrap();
-    }
-    for number in &parameters[4..] {
-        write!(text, " {number}").unwrap();
-    }
-    writeln!(
-        text,
-        "\n{port} flow {flow_max} {} {:02x} {}",
-        bits(flow),
-        flow.parameters[0],
-        flow.parameters[1]
-    )
-    .unwrap();
-    write!(text, "{port} applications {applications_max} {}", bits(applications)).unwrap();
-    for entry in applications.parameters.chunks(6) {
-        let (selector, id, map) = (entry[2] & 3, &entry[..2], entry[5]);
-        write!(text, " {selector} {} {map:02x}", hex(id)).unwrap();
-    }
-    text
+fn string(text: Text) -> String {
+    String::from_utf8(text.0).expect("ASCII")
+}
+
+/// The settings of a port as four lines, the last without its line feed.
+fn settings_lines(number: u8, port: &Port) -> String {
+    let mut text = Text::default();
+    text.number(number).put(" control").field("max", port.control().max);
+    text.put("\n").number(number).put(" ").settings_line(port.groups());
+    text.put("\n").number(number).put(" ").settings_line(port.flow());
+    text.put("\n").number(number).put(" ").settings_line(port.applications());
+    string(text)
 }
 
 /// The line of an event. What a desk's line cannot say stands behind `#`.
@@ -65,8 +57,7 @@ fn event_line(port: u8, event: &Event) -> String {
         Event::Change { feature, setting } => {
             let long = setting.parameters.len() > 507;
             let said = if long { "# too long: " } else { "" };
-            let parameters = hex(&setting.parameters);
-            format!("{said}{port} set {feature} {} {parameters}", bits(setting))
+            format!("{said}{port} set {feature} {}", setting_words(setting))
         }
         Event::Write(room) => format!("{port} write {room}"),
         Event::Take => format!("{port} take"),
@@ -86,15 +77,14 @@ fn step_line(step: &Step) -> String {
     }
 }
 
-/// The settings with which a step makes a port, if it is not refused.
-fn made(step: &Step) -> Option<&OwnedSettings> {
-    match &step.what {
-        What::Event(Event::Create(settings)) => {
-            let made = Recorder::blank().create(step.port, &settings.lend());
-            made.is_ok().then_some(settings)
-        }
-        _ => None,
-    }
+/// The port that a step makes, if it makes one.
+fn made(step: &Step) -> Option<Port> {
+    let What::Event(Event::Create(settings)) = &step.what else {
+        return None;
+    };
+    let mut recorder = Recorder::blank();
+    recorder.create(step.port, &settings.lend()).ok()?;
+    recorder.port(step.port).ok().cloned()
 }
 
 /// The steps up to one, as an input of `desk`: the creations before all else are its settings.
@@ -105,7 +95,7 @@ pub fn desk_lines(steps: &[Step]) -> String {
         match made(step) {
             Some(made) if settings.len() == i && !settings.contains(&step.port) => {
                 settings.push(step.port);
-                text += &settings_lines(step.port, made);
+                text += &settings_lines(step.port, &made);
             }
             _ => text += &step_line(step),
         }

@@ -1,95 +1,124 @@
 //! The settings at the start of an input (docs/FORMATS.md).
 
-use crate::events::{OwnedSetting, OwnedSettings};
-use crate::layout::{Parameters, APPLICATIONS, FLOW_CONTROL, PRIORITY_GROUPS};
+use crate::events::OwnedSettings;
+use crate::layout::{APPLICATIONS, PRIORITY_GROUPS};
 use crate::recorder::PORTS;
 use crate::refusal;
-use crate::settings::FeatureSetting;
-use crate::text::{self, Lines, Text};
-use crate::{Applications, FlowControl, Groups};
-use std::io::{self, Read, Write};
+use crate::text::{self, Fault, Lines, Text};
+use crate::why::{why, Why};
+use crate::words::{self, Due, Line, Unread};
+use std::io::{Read, Write};
 
-/// Why settings cannot be used: the line, and the refusal if it can be read.
+/// Settings that cannot be used: the line, and why.
 #[derive(Clone, Copy, Debug, PartialEq, Eq)]
 pub struct BadSettings {
     pub line: u32,
-    pub refusal: Option<u8>,
+    pub bad: Bad,
+}
+
+#[derive(Clone, Copy, Debug, PartialEq, Eq)]
+pub enum Bad {
+    Unread(Unread),
+    /// Refused with 9.
+    Invalid(Why),
+    /// Refused with 16.
+    NoPort,
 }
 
 impl BadSettings {
     pub fn tell(&self, out: &mut Text) {
         out.put("bad settings: line ").number(self.line);
-        match self.refusal {
-            None => out.put(": cannot be read\n"),
-            Some(number) => out.put(": refused with ").number(number).put("\n"),
+        match self.bad {
+            Bad::Unread(word @ Unread::Word(..)) => out.put(", ").display(word),
+            Bad::Unread(line) => out.put(": ").display(line),
+            Bad::Invalid(why) => {
+                out.put(": ").refused(refusal::INVALID_SETTING).put(": ").display(why)
+            }
+            Bad::NoPort => out.put(": ").refused(refusal::NO_SUCH_PORT),
         };
+        out.put("\n");
     }
 }
 
 #[derive(Debug)]
 pub enum Failure {
     Settings(BadSettings),
-    Input(io::Error),
+    Fault(Fault),
 }
 
-impl From<io::Error> for Failure {
-    fn from(error: io::Error) -> Self {
-        Failure::Input(error)
+impl From<Fault> for Failure {
+    fn from(fault: Fault) -> Self {
+        Failure::Fault(fault)
     }
+}
+
+/// What may stand behind the settings of ports.
+#[derive(Clone, Copy, Debug, PartialEq, Eq)]
+pub enum Behind {
+    Events,
+    Nothing,
+}
+
+/// A port with its settings.
+pub struct PortSettings {
+    pub port: u8,
+    /// Whether its `control` line gives the port.
+    pub named: bool,
+    pub settings: OwnedSettings,
 }
 
 /// Four lines that can be read.
 struct OnePort {
-    port: u8,
-    settings: OwnedSettings,
+    read: PortSettings,
     /// The first line that is refused.
     refused: Option<BadSettings>,
 }
 
-/// A line's port, and what is behind it.
-type Split = fn(&[u8]) -> (u8, &[u8]);
+/// Takes a line with a port in front, or without.
+type Split = fn(&[u8]) -> Line;
 
 /// The settings of two ends, whose lines name no port.
 pub fn two_ends<R: Read, W: Write>(
     lines: &mut Lines<R, W>,
     out: &mut Text,
 ) -> Result<[OwnedSettings; 2], Failure> {
-    let split: Split = |line| (1, line);
-    let a = one_port(lines, out, split, &[])?;
-    let b = one_port(lines, out, split, &[])?;
+    let a = one_port(lines, out, Line::without_port, &[])?;
+    let b = one_port(lines, out, Line::without_port, &[])?;
     match a.refused.or(b.refused) {
         Some(bad) => Err(Failure::Settings(bad)),
-        None => Ok([a.settings, b.settings]),
+        None => Ok([a.read.settings, b.read.settings]),
     }
 }
 
-/// The settings of ports, each with its number. The next line is the first event.
+/// The settings of ports. The next line is the first event, if there may be any.
 pub fn ports<R: Read, W: Write>(
     lines: &mut Lines<R, W>,
+    behind: Behind,
     out: &mut Text,
-) -> Result<Vec<(u8, OwnedSettings)>, Failure> {
-    let split: Split = |line| {
-        let (port, behind) = text::port(line);
-        (port.unwrap_or(1), behind)
-    };
-    let mut ports = vec![one_port(lines, out, split, &[])?];
-    while begins_settings(lines, out)? {
-        ports.push(one_port(lines, out, split, &ports)?);
+) -> Result<Vec<PortSettings>, Failure> {
+    let mut ports = vec![one_port(lines, out, Line::with_port, &[])?];
+    while begins_settings(lines, behind, out)? {
+        ports.push(one_port(lines, out, Line::with_port, &ports)?);
     }
     match ports.iter().find_map(|one| one.refused) {
         Some(bad) => Err(Failure::Settings(bad)),
-        None => Ok(ports.into_iter().map(|one| (one.port, one.settings)).collect()),
+        None => Ok(ports.into_iter().map(|one| one.read).collect()),
     }
 }
 
-/// Whether the next line, which stays the next, begins the settings of a port.
-fn begins_settings<R: Read, W: Write>(lines: &mut Lines<R, W>, out: &mut Text) -> io::Result<bool> {
+/// Whether the next line, which stays the next, is one of settings: if nothing else may stand behind them,
+/// every line is.
+fn begins_settings<R: Read, W: Write>(
+    lines: &mut Lines<R, W>,
+    behind: Behind,
+    out: &mut Text,
+) -> Result<bool, Fault> {
     let Some((_, line)) = lines.next(out)? else {
         return Ok(false);
     };
-    let begins = text::words(text::port(line).1).next() == Some(b"control");
+    let control = Line::with_port(line).words().next_word() == Some(b"control");
     lines.put_back();
-    Ok(begins)
+    Ok(control || behind == Behind::Nothing)
 }
 
 /// Four lines of one port, which none of the earlier ones is.
@@ -99,65 +128,62 @@ fn one_port<R: Read, W: Write>(
     split: Split,
     earlier: &[OnePort],
 ) -> Result<OnePort, Failure> {
-    let (port, control_max) = due(lines, out, |line| {
-        let (port, line) = split(line);
-        let again = earlier.iter().any(|one| one.port == port);
-        Some((port, control_line(line).filter(|_| !again)?))
+    let (named, control_max) = due(lines, out, "control", |line| {
+        let line = split(line);
+        let mut words = line.words();
+        words.word("control")?;
+        if earlier.iter().any(|one| one.read.port == number(line)) {
+            return Err(Unread::Word(1, Due::AnotherPort));
+        }
+        let max = words.max()?;
+        words.end()?;
+        Ok((line.port, max))
     })?;
-    let refused_here = |line, number| BadSettings { line, refusal: Some(number) };
-    let is_port = (1..=PORTS as u8).contains(&port);
-    let mut refused = (!is_port).then(|| refused_here(lines.count, refusal::NO_SUCH_PORT));
+    let port = named.unwrap_or(1);
+    let mut refused = None;
+    if !(1..=PORTS as u8).contains(&port) {
+        refused = Some(BadSettings { line: lines.count, bad: Bad::NoPort });
+    }
     let mut features = Vec::new();
     for feature in PRIORITY_GROUPS..=APPLICATIONS {
-        let (max, setting) = due(lines, out, |line| {
-            let (same, line) = split(line);
-            feature_line(line, feature).filter(|_| same == port)
+        let name = text::place_name(feature);
+        let (max, setting) = due(lines, out, name, |line| {
+            let line = split(line);
+            if number(line) != port {
+                return Err(Unread::Word(1, Due::Port(port)));
+            }
+            let mut words = line.words();
+            words.word(name)?;
+            Ok((words.max()?, words.setting(feature)?))
         })?;
-        if !valid(feature, &setting) {
-            refused.get_or_insert(refused_here(lines.count, refusal::INVALID_SETTING));
+        if let Some(why) = why(feature, &setting.parameters) {
+            refused.get_or_insert(BadSettings { line: lines.count, bad: Bad::Invalid(why) });
         }
         features.push((max, setting));
     }
     let feature = features.try_into().expect("three features");
-    Ok(OnePort { port, settings: OwnedSettings { control_max, feature }, refused })
+    let settings = OwnedSettings { control_max, feature };
+    Ok(OnePort { read: PortSettings { port, named: named.is_some(), settings }, refused })
 }
 
-/// The next line as read, or the number of the line that cannot be.
+/// The port of a line; of one that gives none, 1.
+fn number(line: Line) -> u8 {
+    line.port.unwrap_or(1)
+}
+
+/// The next line as read. If there is none, its name is due.
 fn due<R: Read, W: Write, T>(
     lines: &mut Lines<R, W>,
     out: &mut Text,
-    read: impl FnOnce(&[u8]) -> Option<T>,
+    name: &'static str,
+    read: impl FnOnce(&[u8]) -> Result<T, Unread>,
 ) -> Result<T, Failure> {
-    match lines.next(out)?.map(|(_, line)| read(line)) {
-        Some(Some(read)) => Ok(read),
-        unread => {
-            let line = lines.count + u32::from(unread.is_none());
-            Err(Failure::Settings(BadSettings { line, refusal: None }))
-        }
-    }
-}
-
-fn control_line(line: &[u8]) -> Option<u8> {
-    let mut words = text::words(line);
-    (words.next()? == b"control").then_some(())?;
-    let max = text::small(words.next()?, 255)?;
-    words.next().is_none().then_some(max)
-}
-
-fn feature_line(line: &[u8], feature: u8) -> Option<(u8, OwnedSetting)> {
-    let mut words = text::words(line);
-    (words.next()? == text::place_name(feature).as_bytes()).then_some(())?;
-    let max = text::small(words.next()?, 255)?;
-    Some((max, text::setting(feature, words)?))
-}
-
-fn valid(feature: u8, setting: &OwnedSetting) -> bool {
-    fn of<P: Parameters>(setting: &OwnedSetting) -> bool {
-        FeatureSetting::<P>::read(&setting.lend()).is_ok()
-    }
-    match feature {
-        PRIORITY_GROUPS => of::<Groups>(setting),
-        FLOW_CONTROL => of::<FlowControl>(setting),
-        _ => of::<Applications>(setting),
-    }
+    let (line, unread) = match lines.next(out)? {
+        None => (lines.count + 1, Unread::Word(1, Due::Word(name))),
+        Some((number, line)) => match words::whole(line).and_then(|()| read(line)) {
+            Ok(read) => return Ok(read),
+            Err(unread) => (number, unread),
+        },
+    };
+    Err(Failure::Settings(BadSettings { line, bad: Bad::Unread(unread) }))
 }

@@ -1,10 +1,10 @@
 //! The text forms of docs/FORMATS.md, for the programs `desk` and `pair`.
 
-use crate::events::OwnedSetting;
-use crate::layout::{APPLICATIONS, FLOW_CONTROL, OUI, PRIORITY_GROUPS};
+use crate::layout::{APPLICATIONS, FLOW_CONTROL, PRIORITY_GROUPS};
 use crate::outcome::Reason;
-use crate::Notice;
-use std::io::{self, Read, Write};
+use crate::{refusal, Applications, Feature, FlowControl, Groups, Notice, Parameters};
+use std::fmt::Display;
+use std::io::{ErrorKind, Read, Write};
 use std::ops::Range;
 
 /// The name of feature 2, 3 or 4; of 0, the port.
@@ -14,6 +14,24 @@ pub fn place_name(feature: u8) -> &'static str {
         FLOW_CONTROL => "flow",
         APPLICATIONS => "applications",
         _ => "port",
+    }
+}
+
+pub fn refusal_name(number: u8) -> &'static str {
+    match number {
+        refusal::NOT_RUNNING => "not-running",
+        refusal::SEVERAL_NEIGHBOURS => "several-neighbours",
+        refusal::NOT_DCBX => "not-dcbx",
+        refusal::LENGTH_FIELD => "frame-length",
+        refusal::PAST_THE_END => "past-the-end",
+        refusal::NO_CONTROL => "no-control",
+        refusal::CONTROL_LENGTH => "control-length",
+        refusal::CONTROL_VERSIONS => "control-version",
+        refusal::INVALID_SETTING => "invalid-setting",
+        refusal::SHORT_OUTPUT => "no-room",
+        refusal::NO_SUCH_FEATURE => "no-feature",
+        refusal::NO_NOTICE => "no-notice",
+        _ => "no-port",
     }
 }
 
@@ -44,6 +62,38 @@ pub fn reason_name(reason: Reason) -> &'static str {
         Reason::Disabled => "disabled",
         Reason::Agreed => "agreed",
         Reason::NotCompatible => "not-compatible",
+    }
+}
+
+/// The names of selectors 0 to 3.
+pub const SELECTORS: [&str; 4] = ["ethertype", "port", "selector-2", "selector-3"];
+
+/// Parameters in the words of settings.
+pub trait InWords: Parameters {
+    /// Each word behind a space; no words for no entries.
+    fn put(&self, out: &mut Text);
+}
+
+impl InWords for Groups {
+    fn put(&self, out: &mut Text) {
+        out.list("priorities", &self.group);
+        out.list("percentages", &self.percentage);
+        out.field("classes", self.classes);
+    }
+}
+
+impl InWords for FlowControl {
+    fn put(&self, out: &mut Text) {
+        out.put(" mask ").octets(&[self.mask]).field("classes", self.classes);
+    }
+}
+
+impl InWords for Applications {
+    fn put(&self, out: &mut Text) {
+        for entry in self.entries() {
+            out.put(" ").put(SELECTORS[usize::from(entry.selector)]);
+            out.put(" ").octets(&entry.id.to_be_bytes()).put(" ").octets(&[entry.map]);
+        }
     }
 }
 
@@ -78,6 +128,41 @@ impl Text {
         self.put(" ").put(name).put(" ").number(number)
     }
 
+    /// A space, a word, and each number behind a space.
+    pub fn list(&mut self, name: &str, numbers: &[u8]) -> &mut Self {
+        self.put(" ").put(name);
+        for &number in numbers {
+            self.put(" ").number(number);
+        }
+        self
+    }
+
+    /// Something that has a text of its own.
+    pub fn display(&mut self, shown: impl Display) -> &mut Self {
+        self.put(&shown.to_string())
+    }
+
+    /// A configuration in the words of settings, or ` none`.
+    pub fn configuration(&mut self, configuration: &impl InWords) -> &mut Self {
+        let before = self.0.len();
+        configuration.put(self);
+        if self.0.len() == before {
+            self.put(" none");
+        }
+        self
+    }
+
+    /// The line of settings that a feature has, without its line feed.
+    pub fn settings_line<P: InWords>(&mut self, feature: &Feature<P>) -> &mut Self {
+        let setting = &feature.setting;
+        self.put(place_name(P::FEATURE)).field("max", feature.max);
+        self.field("advertise", setting.advertise);
+        self.field("enable", setting.enable);
+        self.field("willing", setting.willing);
+        setting.parameters.put(self);
+        self
+    }
+
     pub fn octets(&mut self, octets: &[u8]) -> &mut Self {
         const DIGITS: &[u8; 16] = b"0123456789abcdef";
         for octet in octets {
@@ -85,6 +170,11 @@ impl Text {
             self.0.extend_from_slice(&pair);
         }
         self
+    }
+
+    /// `refused N NAME`.
+    pub fn refused(&mut self, number: u8) -> &mut Self {
+        self.put("refused ").number(number).put(" ").put(refusal_name(number))
     }
 
     /// `notice N NAME WHERE`, with its line feed.
@@ -95,8 +185,14 @@ impl Text {
     }
 }
 
-/// The most octets of a line.
-const LONGEST_LINE: usize = 1100;
+/// What stops a program.
+#[derive(Clone, Copy, Debug, PartialEq, Eq)]
+pub enum Fault {
+    /// A read that fails: not the end of the input.
+    Read,
+    /// A write that fails or takes nothing.
+    Write,
+}
 
 /// Lines of an input. Before it waits for more, what is to be written is written.
 pub struct Lines<R, W> {
@@ -119,18 +215,24 @@ impl<R: Read, W: Write> Lines<R, W> {
     }
 
     /// The next line that is neither empty nor a comment, without its line feed,
-    /// and its number. In place of one that is too long, one that cannot be read either.
-    pub fn next(&mut self, out: &mut Text) -> io::Result<Option<(u32, &[u8])>> {
+    /// and its number.
+    pub fn next(&mut self, out: &mut Text) -> Result<Option<(u32, &[u8])>, Fault> {
         while let Some(line) = self.next_place(out)? {
             self.count += 1;
             if !line.is_empty() && self.buffer[line.start] != b'#' {
                 self.last = line.start;
-                let long = line.len() > LONGEST_LINE;
-                let line = if long { b" " } else { &self.buffer[line] };
-                return Ok(Some((self.count, line)));
+                return Ok(Some((self.count, &self.buffer[line])));
             }
         }
         Ok(None)
+    }
+
+    /// From here on the lines of another input, counted from 1.
+    pub fn turn_to(&mut self, input: R) {
+        self.input = input;
+        self.unread = 0..0;
+        self.ended = false;
+        self.count = 0;
     }
 
     /// The line that was handed out last will be the next once more.
@@ -140,7 +242,7 @@ impl<R: Read, W: Write> Lines<R, W> {
     }
 
     /// Where the next line stands in the buffer.
-    fn next_place(&mut self, out: &mut Text) -> io::Result<Option<Range<usize>>> {
+    fn next_place(&mut self, out: &mut Text) -> Result<Option<Range<usize>>, Fault> {
         let mut looked = 0;
         loop {
             let Range { start, end } = self.unread;
@@ -159,147 +261,33 @@ impl<R: Read, W: Write> Lines<R, W> {
         }
     }
 
-    fn fill(&mut self, out: &mut Text) -> io::Result<()> {
+    fn fill(&mut self, out: &mut Text) -> Result<(), Fault> {
         self.write(out)?;
         self.buffer.copy_within(self.unread.clone(), 0);
         self.unread = 0..self.unread.len();
         if self.unread.end == self.buffer.len() {
             self.buffer.resize(2 * self.unread.end, 0);
         }
-        let read = self.input.read(&mut self.buffer[self.unread.end..])?;
+        let read = self.read()?;
         self.unread.end += read;
         self.ended = read == 0;
         Ok(())
     }
 
+    /// Reads into what is left of the buffer. A signal that comes between is no failure.
+    fn read(&mut self) -> Result<usize, Fault> {
+        loop {
+            match self.input.read(&mut self.buffer[self.unread.end..]) {
+                Err(error) if error.kind() == ErrorKind::Interrupted => {}
+                read => return read.map_err(|_| Fault::Read),
+            }
+        }
+    }
+
     /// Writes what is to be written.
-    pub fn write(&mut self, out: &mut Text) -> io::Result<()> {
-        self.output.write_all(&out.0)?;
-        self.output.flush()?;
+    pub fn write(&mut self, out: &mut Text) -> Result<(), Fault> {
+        self.output.write_all(&out.0).map_err(|_| Fault::Write)?;
         out.0.clear();
         Ok(())
     }
-}
-
-/// The words of a line, which one or more spaces part.
-pub fn words(line: &[u8]) -> impl Iterator<Item = &[u8]> {
-    line.split(|&octet| octet == b' ').filter(|word| !word.is_empty())
-}
-
-/// A number of 1 to 5 decimal digits, at most the limit.
-pub fn number(word: &[u8], limit: u32) -> Option<u32> {
-    if word.is_empty() || word.len() > 5 || !word.iter().all(u8::is_ascii_digit) {
-        return None;
-    }
-    let number = word.iter().fold(0, |sum, digit| sum * 10 + u32::from(digit - b'0'));
-    (number <= limit).then_some(number)
-}
-
-/// The port that a line begins with, if it begins with one, and what is behind it.
-pub fn port(line: &[u8]) -> (Option<u8>, &[u8]) {
-    let word = behind_spaces(line);
-    let digits = word.iter().take_while(|octet| octet.is_ascii_digit()).count();
-    let (digits, behind) = word.split_at(digits);
-    match small(digits, 255) {
-        Some(port) if matches!(behind.first(), None | Some(b' ')) => {
-            (Some(port), behind_spaces(behind))
-        }
-        _ => (None, line),
-    }
-}
-
-fn behind_spaces(line: &[u8]) -> &[u8] {
-    let spaces = line.iter().take_while(|&&octet| octet == b' ').count();
-    &line[spaces..]
-}
-
-pub fn small(word: &[u8], limit: u8) -> Option<u8> {
-    number(word, limit.into()).map(|number| number as u8)
-}
-
-pub fn bit(word: &[u8]) -> Option<bool> {
-    match word {
-        b"0" => Some(false),
-        b"1" => Some(true),
-        _ => None,
-    }
-}
-
-/// The value of each lower-case hex digit; `NO_DIGIT` of every other octet.
-const VALUES: [u8; 256] = {
-    let mut values = [NO_DIGIT; 256];
-    let mut value = 0;
-    while value < 16 {
-        values[b"0123456789abcdef"[value] as usize] = value as u8;
-        value += 1;
-    }
-    values
-};
-const NO_DIGIT: u8 = 0xff;
-
-#[inline]
-fn pair(high: u8, low: u8) -> Option<u8> {
-    let (high, low) = (VALUES[usize::from(high)], VALUES[usize::from(low)]);
-    (high | low != NO_DIGIT).then_some(high << 4 | low)
-}
-
-/// Pairs of lower-case hex digits, at most so many.
-pub fn octets(text: &[u8], most: usize, octets: &mut Vec<u8>) -> Option<()> {
-    octets.clear();
-    if !text.len().is_multiple_of(2) || text.len() > 2 * most {
-        return None;
-    }
-    for digits in text.chunks_exact(2) {
-        octets.push(pair(digits[0], digits[1])?);
-    }
-    Some(())
-}
-
-fn octet(word: &[u8]) -> Option<u8> {
-    match *word {
-        [high, low] => pair(high, low),
-        _ => None,
-    }
-}
-
-/// What a line's words hold behind the feature's name and its Max: advertise,
-/// enable, willing and the parameters in words.
-pub fn setting<'a>(feature: u8, mut words: impl Iterator<Item = &'a [u8]>) -> Option<OwnedSetting> {
-    let advertise = bit(words.next()?)?;
-    let enable = bit(words.next()?)?;
-    let willing = bit(words.next()?)?;
-    let mut parameters = Vec::new();
-    match feature {
-        PRIORITY_GROUPS => {
-            for _ in 0..4 {
-                let high = small(words.next()?, 15)?;
-                parameters.push(high << 4 | small(words.next()?, 15)?);
-            }
-            for _ in 0..9 {
-                parameters.push(small(words.next()?, 255)?);
-            }
-        }
-        FLOW_CONTROL => {
-            parameters.push(octet(words.next()?)?);
-            parameters.push(small(words.next()?, 255)?);
-        }
-        _ => {
-            while let Some(word) = words.next() {
-                let selector = small(word, 3)?;
-                let &[a, b, c, d] = words.next()? else {
-                    return None;
-                };
-                let id = [octet(&[a, b])?, octet(&[c, d])?];
-                let map = octet(words.next()?)?;
-                parameters.extend([id[0], id[1], OUI[0] | selector, OUI[1], OUI[2], map]);
-            }
-            if parameters.len() > 17 * 6 {
-                return None;
-            }
-        }
-    }
-    if words.next().is_some() {
-        return None;
-    }
-    Some(OwnedSetting { advertise, enable, willing, parameters })
 }

@@ -6,10 +6,10 @@ use Rattle.desk.proofs.run.Statement.{statement}
 use Rattle.desk.proofs.run.Tie as tie
 
 abbrev Inv-loop : tie.InvT-loop
-Inv-loop input₀ output₀ held₀ lines₀ at₀ turns₀ input output held lines at turns = (length input ≡ length input₀) × (length output ≡ length output₀)
+Inv-loop input₀ output₀ behind held₀ lines₀ at₀ turns₀ input output held lines at turns = (length input ≡ length input₀) × (length output ≡ length output₀)
 
 abbrev μ-loop : tie.MeasureT-loop
-μ-loop input₀ output₀ held₀ lines₀ at₀ turns₀ input output held lines at turns = turns
+μ-loop input₀ output₀ behind held₀ lines₀ at₀ turns₀ input output held lines at turns = turns
 
 loop-holds : tie.Need-loop-holds Inv-loop μ-loop
 loop-holds c = search needs

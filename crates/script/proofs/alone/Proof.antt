@@ -13,11 +13,11 @@ bare-requires c κs = search needs
 returns : tie.Need-returns
 returns c = search alone-is
 
-bare-requires-2 : tie.Need-bare-requires-2
-bare-requires-2 c κs = search needs
+not-due-requires : tie.Need-not-due-requires
+not-due-requires c κs = search needs
 
 returns-2 : tie.Need-returns-2
 returns-2 c = search alone-not
 
 pub alone-spec : {M : Type 1} → statement M
-alone-spec = tie.close (tie.spec is-over-requires bare-requires returns bare-requires-2 returns-2)
+alone-spec = tie.close (tie.spec is-over-requires bare-requires returns not-due-requires returns-2)

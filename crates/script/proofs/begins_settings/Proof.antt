@@ -1,34 +1,42 @@
 -- `begins_settings` meets its contract. Assumes nothing.
-use Rattle.script.specs.LinesLaws.{begins-long, begins-control}
+use Rattle.script.specs.LinesLaws.{begins-given, begins-none}
 use borrow.Author.Needs.{needs}
 use Rattle.script.proofs.begins_settings.Statement.{statement}
 use Rattle.script.proofs.begins_settings.Tie as tie
 
-returns : tie.Need-returns
-returns c = search begins-long
-
 port-of-requires : tie.Need-port-of-requires
 port-of-requires c κs = search needs
 
-behind-port-requires : tie.Need-behind-port-requires
-behind-port-requires c κs = search needs
+behind-requires : tie.Need-behind-requires
+behind-requires c κs = search needs
 
 word-requires : tie.Need-word-requires
 word-requires c κs = search needs
 
-is-part-requires : tie.Need-is-part-requires
-is-part-requires c κs = search needs
+is-name-requires : tie.Need-is-name-requires
+is-name-requires c κs = search needs
+
+returns : tie.Need-returns
+returns c = search begins-given
+
+word-requires-2 : tie.Need-word-requires-2
+word-requires-2 c κs = search needs
+
+is-name-requires-2 : tie.Need-is-name-requires-2
+is-name-requires-2 c κs = search needs
 
 returns-2 : tie.Need-returns-2
-returns-2 c = search begins-control
+returns-2 c = search begins-none
 
 pub begins-settings-spec : {M : Type 1} → statement M
 begins-settings-spec =
     tie.close
     (tie.spec
-    returns
     port-of-requires
-    behind-port-requires
+    behind-requires
     word-requires
-    is-part-requires
+    is-name-requires
+    returns
+    word-requires-2
+    is-name-requires-2
     returns-2)

@@ -37,8 +37,8 @@ enum-told-4 c = search needs
 read-number-requires : tie.Need-read-number-requires
 read-number-requires c κs = search needs
 
-plain-requires : tie.Need-plain-requires
-plain-requires c κs = search needs
+numbered-requires : tie.Need-numbered-requires
+numbered-requires c κs = search needs
 
 returns : tie.Need-returns
 returns c = search change-groups
@@ -67,7 +67,7 @@ change-spec =
     feature-requires-3
     enum-told-4
     read-number-requires
-    plain-requires
+    numbered-requires
     returns
     returns-2
     returns-3

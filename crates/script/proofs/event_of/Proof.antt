@@ -1,5 +1,5 @@
 -- `event_of` meets its contract. Assumes nothing.
-use Rattle.script.specs.LinesLaws.{event-gone, event-take, event-show, event-set, event-write, event-flag, event-other}
+use Rattle.script.specs.LinesLaws.{event-gone, event-take, event-show, event-set, event-write, event-flag, event-frame, event-other}
 use borrow.Author.Needs.{needs}
 use Rattle.script.proofs.event_of.Statement.{statement}
 use Rattle.script.proofs.event_of.Tie as tie
@@ -31,17 +31,11 @@ change-requires c κs = search needs
 enum-told-5 : tie.Need-enum-told-5
 enum-told-5 c = search needs
 
-one-field-requires : tie.Need-one-field-requires
-one-field-requires c κs = search needs
-
 write-line-requires : tie.Need-write-line-requires
 write-line-requires c κs = search needs
 
 enum-known-k : tie.Need-enum-known-k
 enum-known-k c = search needs
-
-one-field-requires-2 : tie.Need-one-field-requires-2
-one-field-requires-2 c κs = search needs
 
 flag-line-requires : tie.Need-flag-line-requires
 flag-line-requires c κs = search needs
@@ -49,8 +43,14 @@ flag-line-requires c κs = search needs
 enum-told-6 : tie.Need-enum-told-6
 enum-told-6 c = search needs
 
-bare-requires : tie.Need-bare-requires
-bare-requires c κs = search needs
+not-due-requires : tie.Need-not-due-requires
+not-due-requires c κs = search needs
+
+enum-told-7 : tie.Need-enum-told-7
+enum-told-7 c = search needs
+
+not-due-requires-2 : tie.Need-not-due-requires-2
+not-due-requires-2 c κs = search needs
 
 returns : tie.Need-returns
 returns c = search event-gone
@@ -71,7 +71,10 @@ returns-6 : tie.Need-returns-6
 returns-6 c = search event-flag
 
 returns-7 : tie.Need-returns-7
-returns-7 c = search event-other
+returns-7 c = search event-frame
+
+returns-8 : tie.Need-returns-8
+returns-8 c = search event-other
 
 pub event-of-spec : {M : Type 1} → statement M
 event-of-spec =
@@ -86,17 +89,18 @@ event-of-spec =
     enum-told-4
     change-requires
     enum-told-5
-    one-field-requires
     write-line-requires
     enum-known-k
-    one-field-requires-2
     flag-line-requires
     enum-told-6
-    bare-requires
+    not-due-requires
+    enum-told-7
+    not-due-requires-2
     returns
     returns-2
     returns-3
     returns-4
     returns-5
     returns-6
-    returns-7)
+    returns-7
+    returns-8)

@@ -1,5 +1,5 @@
 -- `flag_of` meets its contract. Assumes nothing.
-use Rattle.script.specs.LinesLaws.{flag-admin, flag-receive, flag-transmit, flag-several, flag-other}
+use Rattle.script.specs.LinesLaws.{flag-admin, flag-receive, flag-transmit, flag-several, flag-frame, flag-other}
 use borrow.Author.Needs.{needs}
 use Rattle.script.proofs.flag_of.Statement.{statement}
 use Rattle.script.proofs.flag_of.Tie as tie
@@ -40,8 +40,17 @@ same-octets-requires-4 c κs = search needs
 returns-4 : tie.Need-returns-4
 returns-4 c = search flag-several
 
+slice-aggregate-same-octets-5 : tie.Need-slice-aggregate-same-octets-5
+slice-aggregate-same-octets-5 c = search needs
+
+same-octets-requires-5 : tie.Need-same-octets-requires-5
+same-octets-requires-5 c κs = search needs
+
 returns-5 : tie.Need-returns-5
-returns-5 c = search flag-other
+returns-5 c = search flag-frame
+
+returns-6 : tie.Need-returns-6
+returns-6 c = search flag-other
 
 pub flag-of-spec : {M : Type 1} → statement M
 flag-of-spec =
@@ -59,4 +68,7 @@ flag-of-spec =
     slice-aggregate-same-octets-4
     same-octets-requires-4
     returns-4
-    returns-5)
+    slice-aggregate-same-octets-5
+    same-octets-requires-5
+    returns-5
+    returns-6)

@@ -4,20 +4,20 @@ use borrow.Author.Needs.{needs}
 use Rattle.script.proofs.form_of.Statement.{statement}
 use Rattle.script.proofs.form_of.Tie as tie
 
-is-part-requires : tie.Need-is-part-requires
-is-part-requires c κs = search needs
+is-name-requires : tie.Need-is-name-requires
+is-name-requires c κs = search needs
 
 returns : tie.Need-returns
 returns c = search form-groups
 
-is-part-requires-2 : tie.Need-is-part-requires-2
-is-part-requires-2 c κs = search needs
+is-name-requires-2 : tie.Need-is-name-requires-2
+is-name-requires-2 c κs = search needs
 
 returns-2 : tie.Need-returns-2
 returns-2 c = search form-flow
 
-is-part-requires-3 : tie.Need-is-part-requires-3
-is-part-requires-3 c κs = search needs
+is-name-requires-3 : tie.Need-is-name-requires-3
+is-name-requires-3 c κs = search needs
 
 returns-3 : tie.Need-returns-3
 returns-3 c = search form-applications
@@ -29,10 +29,10 @@ pub form-of-spec : {M : Type 1} → statement M
 form-of-spec =
     tie.close
     (tie.spec
-    is-part-requires
+    is-name-requires
     returns
-    is-part-requires-2
+    is-name-requires-2
     returns-2
-    is-part-requires-3
+    is-name-requires-3
     returns-3
     returns-4)

@@ -1,5 +1,5 @@
 -- `parse_setting` meets its contract. Assumes nothing.
-use Rattle.script.specs.LinesLaws.{setting-long, setting-not, setting-due}
+use Rattle.script.specs.LinesLaws.{setting-long, setting-returned, setting-due, setting-not}
 use borrow.Author.Needs.{needs}
 use Rattle.script.proofs.parse_setting.Statement.{statement}
 use Rattle.script.proofs.parse_setting.Tie as tie
@@ -10,26 +10,38 @@ bare-requires c κs = search needs
 returns : tie.Need-returns
 returns c = search setting-long
 
-word-requires : tie.Need-word-requires
-word-requires c κs = search needs
-
-is-part-requires : tie.Need-is-part-requires
-is-part-requires c κs = search needs
+is-returned-requires : tie.Need-is-returned-requires
+is-returned-requires c κs = search needs
 
 bare-requires-2 : tie.Need-bare-requires-2
 bare-requires-2 c κs = search needs
 
 returns-2 : tie.Need-returns-2
-returns-2 c = search setting-not
+returns-2 c = search setting-returned
+
+part-name-requires : tie.Need-part-name-requires
+part-name-requires c κs = search needs
+
+word-requires : tie.Need-word-requires
+word-requires c κs = search needs
+
+is-name-requires : tie.Need-is-name-requires
+is-name-requires c κs = search needs
 
 behind-requires : tie.Need-behind-requires
 behind-requires c κs = search needs
 
-setting-of-requires : tie.Need-setting-of-requires
-setting-of-requires c κs = search needs
+behind-name-requires : tie.Need-behind-name-requires
+behind-name-requires c κs = search needs
 
 returns-3 : tie.Need-returns-3
 returns-3 c = search setting-due
+
+not-due-requires : tie.Need-not-due-requires
+not-due-requires c κs = search needs
+
+returns-4 : tie.Need-returns-4
+returns-4 c = search setting-not
 
 pub parse-setting-spec : {M : Type 1} → statement M
 parse-setting-spec =
@@ -37,10 +49,14 @@ parse-setting-spec =
     (tie.spec
     bare-requires
     returns
-    word-requires
-    is-part-requires
+    is-returned-requires
     bare-requires-2
     returns-2
+    part-name-requires
+    word-requires
+    is-name-requires
     behind-requires
-    setting-of-requires
-    returns-3)
+    behind-name-requires
+    returns-3
+    not-due-requires
+    returns-4)

@@ -4,8 +4,11 @@ use borrow.Author.Needs.{needs}
 use Rattle.script.proofs.port_of.Statement.{statement}
 use Rattle.script.proofs.port_of.Tie as tie
 
-port-number-requires : tie.Need-port-number-requires
-port-number-requires c κs = search needs
+word-requires : tie.Need-word-requires
+word-requires c κs = search needs
+
+read-number-requires : tie.Need-read-number-requires
+read-number-requires c κs = search needs
 
 enum-told : tie.Need-enum-told
 enum-told c = search needs
@@ -24,4 +27,12 @@ returns-2 c = search port-given
 
 pub port-of-spec : {M : Type 1} → statement M
 port-of-spec =
-    tie.close (tie.spec port-number-requires enum-told enum-known-n low-requires returns returns-2)
+    tie.close
+    (tie.spec
+    word-requires
+    read-number-requires
+    enum-told
+    enum-known-n
+    low-requires
+    returns
+    returns-2)

@@ -4,23 +4,11 @@ use borrow.Author.Needs.{needs}
 use Rattle.script.proofs.setting_of.Statement.{statement}
 use Rattle.script.proofs.setting_of.Tie as tie
 
-word-requires : tie.Need-word-requires
-word-requires c κs = search needs
-
-read-number-requires : tie.Need-read-number-requires
-read-number-requires c κs = search needs
-
-behind-requires : tie.Need-behind-requires
-behind-requires c κs = search needs
-
 enum-told : tie.Need-enum-told
 enum-told c = search needs
 
-one-field-requires : tie.Need-one-field-requires
-one-field-requires c κs = search needs
-
-control-requires : tie.Need-control-requires
-control-requires c κs = search needs
+alone-requires : tie.Need-alone-requires
+alone-requires c κs = search needs
 
 enum-told-2 : tie.Need-enum-told-2
 enum-told-2 c = search needs
@@ -56,12 +44,8 @@ pub setting-of-spec : {M : Type 1} → statement M
 setting-of-spec =
     tie.close
     (tie.spec
-    word-requires
-    read-number-requires
-    behind-requires
     enum-told
-    one-field-requires
-    control-requires
+    alone-requires
     enum-told-2
     feature-requires
     enum-told-3

@@ -249,18 +249,23 @@ fn desk_input() -> Vec<u8> {
     let hex = |frame: &[u8]| -> String { frame.iter().map(|o| format!("{o:02x}")).collect() };
     let plain: Vec<String> = plain.chunks_exact(size).map(hex).collect();
     let clashing: Vec<String> = clashing.chunks_exact(size).map(hex).collect();
-    let mut text = b"control 0\n\
-        groups 0 1 1 0 0 0 0 1 0 0 0 0 50 50 0 0 0 0 0 0 2\n\
-        flow 0 1 1 0 08 8\n\
-        applications 0 1 1 0 0 8906 08\n"
-        .to_vec();
+    let switches = "advertise 1 enable 1 willing 0";
+    let mut text = format!(
+        "control max 0\n\
+         groups max 0 {switches} priorities 0 0 0 1 0 0 0 0 percentages 50 50 0 0 0 0 0 0 classes 2\n\
+         flow max 0 {switches} mask 08 classes 8\n\
+         applications max 0 {switches} ethertype 8906 08\n"
+    )
+    .into_bytes();
     for i in 0..LINES {
         let frame = i / 20 % FRAMES;
         match i % 20 {
             16 => writeln!(text, "B {}", clashing[frame]).unwrap(),
             17 => writeln!(text, "write 147").unwrap(),
             18 if frame.is_multiple_of(8) => {
-                writeln!(text, "set flow 1 1 {} 08 8", i / 160 % 2).unwrap()
+                let willing = i / 160 % 2;
+                writeln!(text, "set flow advertise 1 enable 1 willing {willing} mask 08 classes 8")
+                    .unwrap()
             }
             19 => writeln!(text, "take").unwrap(),
             _ => writeln!(text, "B {}", plain[frame]).unwrap(),

@@ -1,16 +1,34 @@
 //! A recorder at a desk: settings of its ports, then events, each answered (docs/FORMATS.md).
 
-use reference::dump;
-use reference::layout::{Parameters, APPLICATIONS, FLOW_CONTROL, PRIORITY_GROUPS};
-use reference::setup::{self, Failure};
-use reference::text::{self, Lines, Text};
-use reference::{Feature, Flag, Log, Port, Recorder, Refusal, Setting};
-use std::io;
+use reference::program::{self, Source};
+use reference::setup::{self, Behind, Failure, PortSettings};
+use reference::text::{self, Fault, InWords, Lines, Text};
+use reference::why::{why, Why};
+use reference::words::{self, By, Due, Line, Switches, Unread, Words};
+use reference::{refusal, Feature, Flag, Log, Port, Recorder, Refusal, Setting};
 
 /// The most octets of a frame, of parameters and of an output that a line names.
 const FRAME: usize = 513;
 const PARAMETERS: usize = 507;
 const ROOM: usize = 1000;
+
+const USAGE: &str = "\
+usage: desk [FILE]
+
+Runs a recorder of one to four ports: first their settings, then events, one a
+line, each answered. With FILE the settings are read from it and the events from
+standard input; without it both are read from standard input.
+
+Example:
+control max 0
+groups max 0 advertise 1 enable 1 willing 0 priorities 0 0 0 1 0 0 0 0 percentages 50 50 0 0 0 0 0 0 classes 2
+flow max 0 advertise 1 enable 1 willing 0 mask 08 classes 8
+applications max 0 advertise 1 enable 1 willing 0 ethertype 8906 08
+write 147
+show
+
+docs/FORMATS.md describes all lines and answers.
+";
 
 struct Desk {
     recorder: Recorder,
@@ -23,16 +41,31 @@ struct Desk {
 }
 
 impl Desk {
+    /// Makes the ports, each answered as an event is.
+    fn create(ports: &[PortSettings], out: &mut Text) -> Self {
+        let mut recorder = Recorder::blank();
+        for PortSettings { port, named, settings } in ports {
+            let wish =
+                recorder.create(*port, &settings.lend()).expect("a port with valid settings");
+            if *named {
+                out.number(*port).put(" ");
+            }
+            done(wish, out).put("\n");
+        }
+        Desk { recorder, port: 1, octets: Vec::new(), answer: Text::default() }
+    }
+
     /// Answers a line. If it names its port, each line of the answer does too.
     fn line(&mut self, line: &[u8], number: u32, out: &mut Text) {
-        let (named, behind) = text::port(line);
-        let Some(port) = named else {
+        let whole = words::whole(line);
+        let line = Line::with_port(line);
+        let Some(port) = line.port else {
             self.port = 1;
-            return self.answer(line, number, out);
+            return self.answer(whole, line, number, out);
         };
         self.port = port;
         let mut answer = std::mem::take(&mut self.answer);
-        self.answer(behind, number, &mut answer);
+        self.answer(whole, line, number, &mut answer);
         for line in answer.0.split_inclusive(|&octet| octet == b'\n') {
             out.number(port).put(" ").0.extend_from_slice(line);
         }
@@ -41,161 +74,193 @@ impl Desk {
     }
 
     /// Answers what stands behind the port.
-    fn answer(&mut self, line: &[u8], number: u32, out: &mut Text) {
-        if self.read(line, out).is_none() {
-            out.put("error ").number(number).put(": cannot be read\n");
+    fn answer(&mut self, whole: Result<(), Unread>, line: Line, number: u32, out: &mut Text) {
+        if let Err(unread) = whole.and_then(|()| self.read(line, out)) {
+            out.put("error ").number(number).put(": ").display(unread).put("\n");
         }
     }
 
-    /// Does what a line says; none if it cannot be read.
-    fn read(&mut self, line: &[u8], out: &mut Text) -> Option<()> {
-        if let Some(hex) = line.strip_prefix(b"B ") {
-            text::octets(hex, FRAME, &mut self.octets)?;
-            return self.event(out, |recorder, port, octets| recorder.frame(port, octets));
-        }
-        let mut words = text::words(line);
-        let first = words.next()?;
-        match first {
-            b"set" => return self.set(words, out),
-            b"write" => {
-                let room = text::number(words.next()?, ROOM as u32)? as usize;
-                last(words)?;
-                self.write(room, out);
-                return Some(());
+    /// Does what a line says.
+    fn read(&mut self, line: Line, out: &mut Text) -> Result<(), Unread> {
+        if let Some(hex) = line.behind.strip_prefix(b"B ") {
+            if words::octets(hex, FRAME, &mut self.octets).is_some() {
+                self.event(out, |recorder, port, octets| recorder.frame(port, octets));
+                return Ok(());
             }
-            _ => {}
         }
-        let flag = match first {
-            b"admin" => Flag::Enabled,
-            b"receive" => Flag::Receive,
-            b"transmit" => Flag::Transmit,
-            b"several" => Flag::SeveralNeighbours,
-            _ => {
-                last(words)?;
-                return self.word(first, out);
+        let mut words = line.words();
+        match words.next_word() {
+            Some(b"B") => {
+                words.next_word();
+                return Err(words.unread(Due::Frame));
             }
-        };
-        let on = text::bit(words.next()?)?;
-        last(words)?;
-        self.event(out, |recorder, port, _| recorder.set_flag(port, flag, on))
+            Some(b"set") => return self.set(words, out),
+            Some(b"admin") => self.flag(Flag::Enabled, words, out)?,
+            Some(b"receive") => self.flag(Flag::Receive, words, out)?,
+            Some(b"transmit") => self.flag(Flag::Transmit, words, out)?,
+            Some(b"several") => self.flag(Flag::SeveralNeighbours, words, out)?,
+            Some(b"write") => {
+                let room = words.number(ROOM as u32)?;
+                words.end()?;
+                self.write(room as usize, out);
+            }
+            Some(b"gone") => {
+                words.end()?;
+                self.event(out, |recorder, port, _| recorder.peer_gone(port));
+            }
+            Some(b"take") => {
+                words.end()?;
+                self.take(out);
+            }
+            Some(b"show") => {
+                words.end()?;
+                self.show(out);
+            }
+            _ => return Err(words.unread(Due::Event)),
+        }
+        Ok(())
     }
 
-    /// A line of one word.
-    fn word(&mut self, word: &[u8], out: &mut Text) -> Option<()> {
-        match word {
-            b"gone" => return self.event(out, |recorder, port, _| recorder.peer_gone(port)),
-            b"take" => match self.recorder.take(self.port) {
-                Ok(notice) => out.notice(notice),
-                Err(number) => refused(number, out),
-            },
-            b"show" => match self.recorder.port(self.port) {
-                Ok(port) => show(self.port, port, self.recorder.log(), out),
-                Err(number) => refused(number, out),
-            },
-            _ => return None,
-        };
-        Some(())
+    fn flag(&mut self, flag: Flag, mut words: Words, out: &mut Text) -> Result<(), Unread> {
+        let on = words.bit()?;
+        words.end()?;
+        self.event(out, |recorder, port, _| recorder.set_flag(port, flag, on));
+        Ok(())
     }
 
     /// A setting change, in words or by number.
-    fn set<'a>(&mut self, mut words: impl Iterator<Item = &'a [u8]>, out: &mut Text) -> Option<()> {
-        let name = words.next()?;
-        let named = (PRIORITY_GROUPS..=APPLICATIONS)
-            .find(|&feature| name == text::place_name(feature).as_bytes());
-        if let Some(feature) = named {
-            let setting = text::setting(feature, words)?;
-            return self
-                .event(out, |recorder, port, _| recorder.change(port, feature, &setting.lend()));
+    fn set(&mut self, mut words: Words, out: &mut Text) -> Result<(), Unread> {
+        match words.feature()? {
+            By::Name(feature) => {
+                let setting = words.setting(feature)?;
+                self.event(out, |recorder, port, _| {
+                    change(recorder, port, feature, &setting.lend())
+                });
+            }
+            By::Number(feature) => {
+                let Switches { advertise, enable, willing } = words.switches()?;
+                self.octets.clear();
+                if !words.is_empty() {
+                    words.word("parameters")?;
+                    words.octets(PARAMETERS, &mut self.octets)?;
+                    words.end()?;
+                }
+                self.event(out, |recorder, port, parameters| {
+                    let setting = Setting { advertise, enable, willing, parameters };
+                    change(recorder, port, feature, &setting)
+                });
+            }
         }
-        let feature = text::small(name, 255)?;
-        let advertise = text::bit(words.next()?)?;
-        let enable = text::bit(words.next()?)?;
-        let willing = text::bit(words.next()?)?;
-        let hex = words.next().unwrap_or(b"");
-        last(words)?;
-        text::octets(hex, PARAMETERS, &mut self.octets)?;
-        self.event(out, |recorder, port, parameters| {
-            recorder.change(port, feature, &Setting { advertise, enable, willing, parameters })
-        })
+        Ok(())
     }
 
-    /// Does an event at the port at hand, and answers it with the notices that it wrote.
-    fn event<R: Into<Refusal>>(
+    /// Does an event at the port at hand, and answers it with the notices that it wrote and their number.
+    fn event<R: Into<Refused>>(
         &mut self,
         out: &mut Text,
         event: impl FnOnce(&mut Recorder, u8, &[u8]) -> Result<bool, R>,
-    ) -> Option<()> {
+    ) {
         let before = self.recorder.log().written();
         match event(&mut self.recorder, self.port, &self.octets) {
-            Ok(wish) => out.put(if wish { "done send\n" } else { "done\n" }),
-            Err(refusal) => refused(refusal, out),
+            Ok(wish) => done(wish, out),
+            Err(refused) => refused.into().tell(out),
         };
-        for notice in self.recorder.log().since(before) {
+        let log = self.recorder.log();
+        if log.written() != before {
+            out.field("notices", log.since(before).count() as u32);
+        }
+        out.put("\n");
+        for notice in log.since(before) {
             out.notice(notice);
         }
-        Some(())
+    }
+
+    fn take(&mut self, out: &mut Text) {
+        match self.recorder.take(self.port) {
+            Ok(notice) => out.notice(notice),
+            Err(number) => out.refused(number).put("\n"),
+        };
+    }
+
+    fn show(&self, out: &mut Text) {
+        match self.recorder.port(self.port) {
+            Ok(port) => show(self.port, port, self.recorder.log(), out),
+            Err(number) => out.refused(number).put("\n"),
+        };
     }
 
     fn write(&self, room: usize, out: &mut Text) {
         let mut output = [0; ROOM];
         match self.recorder.write(self.port, &mut output[..room]) {
             Ok(length) => out.put("A ").octets(&output[..length]).put("\n"),
-            Err(number) => refused(number, out),
+            Err(number) => out.refused(number).put("\n"),
         };
     }
 }
 
-/// The number, and where the frame went wrong if it is the frame that is refused.
-fn refused(refusal: impl Into<Refusal>, out: &mut Text) -> &mut Text {
-    let refusal = refusal.into();
-    out.put("refused ").number(refusal.number);
-    if refusal.has_place() {
-        out.field("at", refusal.place);
-    }
-    out.put("\n")
+/// An event was taken.
+fn done(wish: bool, out: &mut Text) -> &mut Text {
+    out.put(if wish { "done send" } else { "done" })
 }
 
-/// No word may be left.
-fn last<'a>(mut words: impl Iterator<Item = &'a [u8]>) -> Option<()> {
-    words.next().is_none().then_some(())
+/// A refusal with what is told beside it: where a frame went wrong, or why a setting is invalid.
+struct Refused {
+    refusal: Refusal,
+    why: Option<Why>,
 }
 
-/// Parameters as octets; none at all as `-`.
-fn parameters<P: Parameters>(parameters: &P, out: &mut Text) {
-    let octets = dump::octets(parameters);
-    if octets.is_empty() {
-        out.put(" -\n");
-    } else {
-        out.put(" ").octets(&octets).put("\n");
+impl<R: Into<Refusal>> From<R> for Refused {
+    fn from(refusal: R) -> Self {
+        Refused { refusal: refusal.into(), why: None }
     }
 }
 
-fn show_feature<P: Parameters>(name: &str, feature: &Feature<P>, out: &mut Text) {
-    out.put(name).field("oper", feature.oper);
-    out.field("max", feature.max).field("error", feature.error);
-    out.field("mode", feature.mode).field("syncd", feature.syncd);
+impl Refused {
+    fn tell(self, out: &mut Text) -> &mut Text {
+        out.refused(self.refusal.number);
+        if self.refusal.has_place() {
+            out.field("at", self.refusal.place);
+        }
+        if let Some(why) = self.why {
+            out.put(": ").display(why);
+        }
+        out
+    }
+}
+
+/// Changes a setting; refusal 9 with the reason.
+fn change(
+    recorder: &mut Recorder,
+    port: u8,
+    feature: u8,
+    setting: &Setting,
+) -> Result<bool, Refused> {
+    recorder.change(port, feature, setting).map_err(|number| {
+        let invalid = number == refusal::INVALID_SETTING;
+        let why = invalid.then(|| why(feature, setting.parameters)).flatten();
+        Refused { refusal: number.into(), why }
+    })
+}
+
+fn show_feature<P: InWords>(feature: &Feature<P>, out: &mut Text) {
+    let name = text::place_name(P::FEATURE);
+    out.settings_line(feature).put("\n");
+    out.put(name).put(" state").field("oper", feature.oper);
+    out.field("error", feature.error).field("mode", feature.mode);
+    out.field("syncd", feature.syncd);
     out.field("featureseqno", feature.featureseqno);
     out.put(" reason ").put(text::reason_name(feature.reason));
-    let setting = &feature.setting;
-    out.put("\n").put(name).put(" setting");
-    out.field("advertise", setting.advertise);
-    out.field("enable", setting.enable);
-    out.field("willing", setting.willing).put(" desired");
-    parameters(&setting.parameters, out);
-    out.put(name).put(" peer");
+    out.put("\n").put(name).put(" peer");
     match &feature.peer {
-        None => {
-            out.put(" none\n");
-        }
+        None => out.put(" none\n"),
         Some(peer) => {
             out.field("enable", peer.enable);
             out.field("willing", peer.willing);
-            out.field("error", peer.error).put(" parameters");
-            parameters(&peer.parameters, out);
+            out.field("error", peer.error);
+            out.configuration(&peer.parameters).put("\n")
         }
-    }
-    out.put(name).put(" opercfg");
-    parameters(&feature.opercfg, out);
+    };
+    out.put(name).put(" opercfg").configuration(&feature.opercfg).put("\n");
 }
 
 fn show<'a>(number: u8, port: &Port, log: &Log, out: &'a mut Text) -> &'a mut Text {
@@ -205,17 +270,17 @@ fn show<'a>(number: u8, port: &Port, log: &Log, out: &'a mut Text) -> &'a mut Te
     out.field("receive", flags.receive);
     out.field("transmit", flags.transmit);
     out.field("several", flags.several_neighbours);
-    out.put("\ncontrol").field("oper", control.oper);
-    out.field("max", control.max);
+    out.put("\ncontrol").field("max", control.max);
+    out.put("\ncontrol state").field("oper", control.oper);
     out.field("seqno", control.seqno);
     out.field("ackno", control.ackno);
     out.field("rcvdackno", control.rcvdackno);
     out.field("seen", control.peer_seen);
     out.field("duplicate", control.duplicate_control);
     out.field("broken", control.broken_control).put("\n");
-    show_feature(text::place_name(PRIORITY_GROUPS), port.groups(), out);
-    show_feature(text::place_name(FLOW_CONTROL), port.flow(), out);
-    show_feature(text::place_name(APPLICATIONS), port.applications(), out);
+    show_feature(port.groups(), out);
+    show_feature(port.flow(), out);
+    show_feature(port.applications(), out);
     out.put("log").field("held", log.held(number) as u32);
     out.field("dropped", log.dropped(number)).put("\n");
     for notice in log.of(number) {
@@ -224,25 +289,32 @@ fn show<'a>(number: u8, port: &Port, log: &Log, out: &'a mut Text) -> &'a mut Te
     out
 }
 
-fn main() -> io::Result<()> {
-    let mut lines = Lines::new(io::stdin().lock(), io::stdout().lock());
+fn run(source: Source) -> Result<(), Fault> {
+    let (input, events) = match source {
+        Source::Standard => (program::input()?, None),
+        Source::File(file) => (file, Some(program::input()?)),
+    };
+    let behind = if events.is_some() { Behind::Nothing } else { Behind::Events };
+    let mut lines = Lines::new(input, program::output()?);
     let mut out = Text::default();
-    let mut recorder = Recorder::blank();
-    match setup::ports(&mut lines, &mut out) {
-        Ok(ports) => {
-            for (port, settings) in ports {
-                recorder.create(port, &settings.lend()).expect("a port with valid settings");
-            }
-        }
+    let ports = match setup::ports(&mut lines, behind, &mut out) {
+        Ok(ports) => ports,
         Err(Failure::Settings(bad)) => {
             bad.tell(&mut out);
             return lines.write(&mut out);
         }
-        Err(Failure::Input(error)) => return Err(error),
+        Err(Failure::Fault(fault)) => return Err(fault),
+    };
+    if let Some(events) = events {
+        lines.turn_to(events);
     }
-    let mut desk = Desk { recorder, port: 1, octets: Vec::new(), answer: Text::default() };
+    let mut desk = Desk::create(&ports, &mut out);
     while let Some((number, line)) = lines.next(&mut out)? {
         desk.line(line, number, &mut out);
     }
     lines.write(&mut out)
+}
+
+fn main() {
+    program::start("desk", USAGE, run);
 }

@@ -2,112 +2,109 @@
 
 use reference::events::OwnedSettings;
 use reference::layout::{APPLICATIONS, FLOW_CONTROL, PRIORITY_GROUPS};
+use reference::program::{self, Source};
 use reference::rounds::{settled, Ends};
 use reference::setup::{self, Failure};
-use reference::text::{self, Lines, Text};
-use reference::{Applications, Feature, FlowControl, Groups, Log, Port, Recorder};
-use std::io;
+use reference::text::{self, Fault, InWords, Lines, Text};
+use reference::{Feature, Log, Parameters, Port, Recorder};
 
 /// Rounds that are always enough.
 const ENOUGH: u32 = 5;
 /// Each end is this port of a recorder of its own.
 const PORT: u8 = 1;
 
-/// The priorities of a mask or map.
-fn priorities(mask: u8, out: &mut Text) {
-    if mask == 0 {
-        out.put("no priorities");
-        return;
-    }
-    out.put("priorities");
-    for priority in (0..8u8).filter(|priority| mask >> priority & 1 == 1) {
-        out.put(" ").number(priority);
-    }
-}
+const USAGE: &str = "\
+usage: pair [FILE]
 
-/// Numbers, each behind a space.
-fn numbers(numbers: &[u8], out: &mut Text) {
-    for &number in numbers {
-        out.put(" ").number(number);
-    }
-}
+Will two boxes agree? The settings of A, then those of B, are read from FILE, or
+without it from standard input.
 
-fn groups(groups: &Groups, out: &mut Text) {
-    out.put("groups");
-    numbers(&groups.group, out);
-    out.put(", percentages");
-    numbers(&groups.percentage, out);
-    out.put(", ").number(groups.classes).put(" classes");
-}
+Example:
+control max 0
+groups max 0 advertise 1 enable 1 willing 0 priorities 0 0 0 1 0 0 0 0 percentages 50 50 0 0 0 0 0 0 classes 2
+flow max 0 advertise 1 enable 1 willing 0 mask 08 classes 8
+applications max 0 advertise 1 enable 1 willing 0 ethertype 8906 08
+control max 0
+groups max 0 advertise 1 enable 1 willing 0 priorities 0 0 0 1 0 0 0 0 percentages 50 50 0 0 0 0 0 0 classes 2
+flow max 0 advertise 1 enable 1 willing 0 mask 10 classes 8
+applications max 0 advertise 1 enable 1 willing 0 ethertype 8906 08
 
-fn flow(flow: &FlowControl, out: &mut Text) {
-    priorities(flow.mask, out);
-    out.put(", ").number(flow.classes).put(" classes");
-}
+docs/FORMATS.md describes the settings and the report.
+";
 
-fn applications(applications: &Applications, out: &mut Text) {
-    if applications.entries().is_empty() {
-        out.put("none");
-    }
-    for (i, entry) in applications.entries().iter().enumerate() {
-        if i > 0 {
-            out.put("; ");
-        }
-        out.put(match entry.selector {
-            0 => "ethertype ",
-            1 => "port ",
-            2 => "selector-2 ",
-            _ => "selector-3 ",
-        });
-        out.octets(&entry.id.to_be_bytes()).put(" on ");
-        priorities(entry.map, out);
-    }
-}
-
-fn feature<P>(end: &str, number: u8, feature: &Feature<P>, out: &mut Text) {
-    out.put(end).put(" ").put(text::place_name(number));
+fn report_feature<P: InWords>(end: &str, feature: &Feature<P>, out: &mut Text) {
+    out.put(end).put(" ").put(text::place_name(P::FEATURE));
     out.field("version", feature.oper);
     out.field("mode", feature.mode);
     out.field("error", feature.error);
     out.put(" reason ").put(text::reason_name(feature.reason));
-    out.put(": ");
+    out.put(":").configuration(&feature.opercfg).put("\n");
 }
 
 fn report_end(end: &str, port: &Port, log: &Log, out: &mut Text) {
     out.put(end).put(" control");
     out.field("version", port.control().oper).put("\n");
-    feature(end, PRIORITY_GROUPS, port.groups(), out);
-    groups(&port.groups().opercfg, out);
-    out.put("\n");
-    feature(end, FLOW_CONTROL, port.flow(), out);
-    flow(&port.flow().opercfg, out);
-    out.put("\n");
-    feature(end, APPLICATIONS, port.applications(), out);
-    applications(&port.applications().opercfg, out);
-    out.put("\n");
+    report_feature(end, port.groups(), out);
+    report_feature(end, port.flow(), out);
+    report_feature(end, port.applications(), out);
     for notice in log.of(PORT) {
         out.put(end).put(" ").notice(notice);
     }
 }
 
-/// Whether an end advertises the feature and does not run it.
-fn disagreed(port: &Port, feature: u8) -> bool {
-    let feature = port.feature(feature);
-    feature.advertise && !feature.mode
+/// The ends that do not advertise a feature, if there are any.
+fn silent(ends: &Ends, feature: u8) -> Option<&'static str> {
+    match ends.ends().map(|port| port.feature(feature).advertise) {
+        [true, true] => None,
+        [false, true] => Some("A"),
+        [true, false] => Some("B"),
+        [false, false] => Some("A and B"),
+    }
+}
+
+/// Whether what the two ends run fits.
+fn fits(ends: &Ends, feature: u8) -> bool {
+    fn compatible<P: Parameters>(a: &Feature<P>, b: &Feature<P>) -> bool {
+        a.opercfg.compatible(&b.opercfg)
+    }
+    let [a, b] = ends.ends();
+    match feature {
+        PRIORITY_GROUPS => compatible(a.groups(), b.groups()),
+        FLOW_CONTROL => compatible(a.flow(), b.flow()),
+        _ => compatible(a.applications(), b.applications()),
+    }
+}
+
+/// Agreed, not agreed or not exchanged, and which features are not.
+fn first_line(ends: &Ends, rounds: u32, out: &mut Text) {
+    let (mut not_agreed, mut not_exchanged) = (Vec::new(), Vec::new());
+    for feature in PRIORITY_GROUPS..=APPLICATIONS {
+        let name = text::place_name(feature);
+        if let Some(silent) = silent(ends, feature) {
+            let fits = if fits(ends, feature) { "fits" } else { "does not fit" };
+            not_exchanged.push(format!("{name} at {silent} ({fits})"));
+        } else if ends.ends().iter().any(|port| !port.feature(feature).mode) {
+            not_agreed.push(name);
+        }
+    }
+    out.put(match (&not_agreed[..], &not_exchanged[..]) {
+        ([], []) => "agreed",
+        ([], _) => "not exchanged",
+        _ => "not agreed",
+    });
+    out.put(" after ").number(rounds).put(" rounds");
+    if !not_agreed.is_empty() {
+        out.put(": ").put(&not_agreed.join(" "));
+    }
+    if !not_exchanged.is_empty() {
+        out.put(if not_agreed.is_empty() { ": " } else { "; not exchanged: " });
+        out.put(&not_exchanged.join(", "));
+    }
+    out.put("\n");
 }
 
 fn report(ends: &Ends, rounds: u32, out: &mut Text) {
-    let features: Vec<&str> = (PRIORITY_GROUPS..=APPLICATIONS)
-        .filter(|&feature| ends.ends().iter().any(|port| disagreed(port, feature)))
-        .map(text::place_name)
-        .collect();
-    let agreed = features.is_empty();
-    out.put(if agreed { "agreed" } else { "not agreed" });
-    out.put(" after ").number(rounds).put(" rounds");
-    if !agreed {
-        out.put(": ").put(&features.join(" "));
-    }
-    out.put("\n");
+    first_line(ends, rounds, out);
     report_end("A", ends.end(0), ends.recorder[0].log(), out);
     report_end("B", ends.end(1), ends.recorder[1].log(), out);
 }
@@ -118,11 +115,15 @@ fn recorder(settings: &OwnedSettings) -> (Recorder, u8) {
     (recorder, PORT)
 }
 
-fn main() -> io::Result<()> {
-    let mut lines = Lines::new(io::stdin().lock(), io::stdout().lock());
+fn run(source: Source) -> Result<(), Fault> {
+    let input = match source {
+        Source::Standard => program::input()?,
+        Source::File(file) => file,
+    };
+    let mut lines = Lines::new(input, program::output()?);
     let mut out = Text::default();
     match setup::two_ends(&mut lines, &mut out) {
-        Err(Failure::Input(error)) => return Err(error),
+        Err(Failure::Fault(fault)) => return Err(fault),
         Err(Failure::Settings(bad)) => bad.tell(&mut out),
         Ok([a, b]) => {
             let mut ends = Ends::new(recorder(&a), recorder(&b));
@@ -135,4 +136,8 @@ fn main() -> io::Result<()> {
         }
     }
     lines.write(&mut out)
+}
+
+fn main() {
+    program::start("pair", USAGE, run);
 }

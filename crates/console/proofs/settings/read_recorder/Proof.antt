@@ -6,10 +6,10 @@ use Rattle.console.proofs.settings.read_recorder.Statement.{statement}
 use Rattle.console.proofs.settings.read_recorder.Tie as tie
 
 abbrev Inv-loop : tie.InvT-loop
-Inv-loop buffer₀ made₀ seen₀ wrong₀ lines₀ turns₀ buffer made seen wrong lines turns = length buffer ≡ length buffer₀
+Inv-loop buffer₀ out₀ alone made₀ seen₀ told₀ lines₀ turns₀ buffer out made seen told lines turns = (length buffer ≡ length buffer₀) × (length out ≡ length out₀)
 
 abbrev μ-loop : tie.MeasureT-loop
-μ-loop buffer₀ made₀ seen₀ wrong₀ lines₀ turns₀ buffer made seen wrong lines turns = turns
+μ-loop buffer₀ out₀ alone made₀ seen₀ told₀ lines₀ turns₀ buffer out made seen told lines turns = turns
 
 blank-requires : tie.Need-blank-requires Inv-loop μ-loop
 blank-requires c κs = search needs
@@ -26,11 +26,11 @@ read-port-requires c κs = search needs
 wide-requires : tie.Need-wide-requires Inv-loop μ-loop
 wide-requires c κs = search needs
 
-array-read-undue-line : tie.Need-array-read-undue-line Inv-loop μ-loop
-array-read-undue-line c = search needs
+array-read-again : tie.Need-array-read-again Inv-loop μ-loop
+array-read-again c = search needs
 
-undue-line-requires : tie.Need-undue-line-requires Inv-loop μ-loop
-undue-line-requires c κs = search needs
+undue-requires : tie.Need-undue-requires Inv-loop μ-loop
+undue-requires c κs = search needs
 
 array-write-seen : tie.Need-array-write-seen Inv-loop μ-loop
 array-write-seen c = search needs
@@ -50,32 +50,41 @@ create-requires c κs = search needs
 store-requires : tie.Need-store-requires Inv-loop μ-loop
 store-requires c κs = search needs
 
-wrong-behind-requires : tie.Need-wrong-behind-requires Inv-loop μ-loop
-wrong-behind-requires c κs = search needs
+created-requires : tie.Need-created-requires Inv-loop μ-loop
+created-requires c κs = search needs
 
 look-ahead-requires : tie.Need-look-ahead-requires Inv-loop μ-loop
 look-ahead-requires c κs = search needs
 
 loop-less : tie.Need-loop-less Inv-loop μ-loop
-loop-less c = search (needs, c .before .before .before .before .before .before .before .before .before .before .before .before .before .before .before .before .before .before .before .before)
+loop-less c = search (needs, c .before .before .before .before .before .before .before .before .before .before .before .before .before .before .before .before .before .before .before .before .before .before .before .before)
 
 loop-again : tie.Need-loop-again Inv-loop μ-loop
-loop-again c = search (needs, c .before .before .before .before, c .before .before .before .before .before .before .before .before .before .before .before .before .before .before .before .before .before)
+loop-again c = search (needs, c .before .before .before .before .before .before .before .before .before, c .before .before .before .before .before .before .before .before .before .before .before .before .before .before .before .before .before .before .before .before .before .before)
 
 same-length : tie.Need-same-length Inv-loop μ-loop
 same-length c = search needs
 
+same-length-2 : tie.Need-same-length-2 Inv-loop μ-loop
+same-length-2 c = search needs
+
 returns : tie.Need-returns Inv-loop μ-loop
 returns c = search needs
 
-same-length-2 : tie.Need-same-length-2 Inv-loop μ-loop
-same-length-2 c = search needs
+same-length-3 : tie.Need-same-length-3 Inv-loop μ-loop
+same-length-3 c = search needs
+
+same-length-4 : tie.Need-same-length-4 Inv-loop μ-loop
+same-length-4 c = search needs
 
 returns-2 : tie.Need-returns-2 Inv-loop μ-loop
 returns-2 c = search needs
 
-same-length-3 : tie.Need-same-length-3 Inv-loop μ-loop
-same-length-3 c = search (needs, c .before .before .before .before, c .before .before .before .before .before .before .before .before .before .before .before .before .before .before .before .before .before)
+same-length-5 : tie.Need-same-length-5 Inv-loop μ-loop
+same-length-5 c = search (needs, c .before .before .before .before .before .before .before .before .before, c .before .before .before .before .before .before .before .before .before .before .before .before .before .before .before .before .before .before .before .before .before .before)
+
+same-length-6 : tie.Need-same-length-6 Inv-loop μ-loop
+same-length-6 c = search (needs, c .before .before .before .before .before .before .before .before .before, c .before .before .before .before .before .before .before .before .before .before .before .before .before .before .before .before .before .before .before .before .before .before)
 
 returns-3 : tie.Need-returns-3 Inv-loop μ-loop
 returns-3 c = search needs
@@ -91,21 +100,24 @@ read-recorder-spec =
     sub-turns
     read-port-requires
     wide-requires
-    array-read-undue-line
-    undue-line-requires
+    array-read-again
+    undue-requires
     array-write-seen
     place-of-requires
     mul-create
     element-copy-out-create
     create-requires
     store-requires
-    wrong-behind-requires
+    created-requires
     look-ahead-requires
     loop-less
     loop-again
     same-length
-    returns
     same-length-2
-    returns-2
+    returns
     same-length-3
+    same-length-4
+    returns-2
+    same-length-5
+    same-length-6
     returns-3)

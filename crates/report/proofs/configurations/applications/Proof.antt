@@ -7,10 +7,10 @@ use Rattle.report.proofs.configurations.applications.Statement.{stateme
 use Rattle.report.proofs.configurations.applications.Tie as tie
 
 abbrev Inv-loop : tie.InvT-loop
-Inv-loop out₀ at p n to₀ i₀ out to i = length out ≡ length out₀
+Inv-loop out₀ at p none n to₀ i₀ out to i = length out ≡ length out₀
 
 abbrev μ-loop : tie.MeasureT-loop
-μ-loop out₀ at p n to₀ i₀ out to i = n - i
+μ-loop out₀ at p none n to₀ i₀ out to i = n - i
 
 slice-aggregate-text : tie.Need-slice-aggregate-text Inv-loop μ-loop
 slice-aggregate-text c = search needs

@@ -11,7 +11,7 @@ returns : tie.Need-returns
 returns c = (search entries-few, omega arith)
 
 mul-result : tie.Need-mul-result
-mul-result c = omega arith
+mul-result c = search needs
 
 returns-2 : tie.Need-returns-2
 unfolding parameterCount

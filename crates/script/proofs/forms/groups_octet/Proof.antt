@@ -1,5 +1,5 @@
 -- `groups_octet` meets its contract. Assumes nothing.
-use Rattle.script.specs.FormsLaws.{groups-halves, groups-rest}
+use Rattle.script.specs.FormsLaws.{groups-halves, groups-percentage, groups-classes}
 use borrow.Author.Needs.{needs}
 use Rattle.script.proofs.forms.groups_octet.Statement.{statement}
 use Rattle.script.proofs.forms.groups_octet.Tie as tie
@@ -44,7 +44,19 @@ low-requires : tie.Need-low-requires
 low-requires c κs = search needs
 
 returns-2 : tie.Need-returns-2
-returns-2 c = search groups-rest
+returns-2 c = search groups-percentage
+
+add-number-at-4 : tie.Need-add-number-at-4
+add-number-at-4 c = search needs
+
+number-at-requires-4 : tie.Need-number-at-requires-4
+number-at-requires-4 c κs = search needs
+
+low-requires-2 : tie.Need-low-requires-2
+low-requires-2 c κs = search needs
+
+returns-3 : tie.Need-returns-3
+returns-3 c = search groups-classes
 
 pub groups-octet-spec : {M : Type 1} → statement M
 groups-octet-spec =
@@ -63,4 +75,8 @@ groups-octet-spec =
     add-number-at-3
     number-at-requires-3
     low-requires
-    returns-2)
+    returns-2
+    add-number-at-4
+    number-at-requires-4
+    low-requires-2
+    returns-3)

@@ -13,6 +13,9 @@ groups-octet-requires c κs = search needs
 enum-told-2 : tie.Need-enum-told-2
 enum-told-2 c = search needs
 
+mul-number-at : tie.Need-mul-number-at
+mul-number-at c = search needs
+
 add-number-at : tie.Need-add-number-at
 add-number-at c = search needs
 
@@ -56,6 +59,7 @@ parameter-at-spec =
     enum-told
     groups-octet-requires
     enum-told-2
+    mul-number-at
     add-number-at
     number-at-requires
     low-requires

@@ -1,8 +1,8 @@
 -- `read_form` meets its contract: the first i words are what is due, and the rest decides. Assumes nothing.
 use Prim.Native.Nat.{_-_}
 use native.Mathlib.Omega.{arith}
-use borrow.Author.Needs.{needs}
 use Rattle.script.specs.ReadingLaws.{Reading, reading-start, reading-more, reading-not, reading-end, reading-many}
+use borrow.Author.Needs.{needs}
 use Rattle.script.proofs.forms.read_form.Statement.{statement}
 use Rattle.script.proofs.forms.read_form.Tie as tie
 
@@ -10,22 +10,22 @@ abbrev Inv-loop : tie.InvT-loop
 Inv-loop f s numbers₀ i₀ left₀ numbers i left = Reading f s numbers i left
 
 abbrev μ-loop : tie.MeasureT-loop
-μ-loop f s numbers₀ i₀ left₀ numbers i left = 55 - i
+μ-loop f s numbers₀ i₀ left₀ numbers i left = 58 - i
 
 loop-holds : tie.Need-loop-holds Inv-loop μ-loop
 loop-holds c = search reading-start
 
+due-requires : tie.Need-due-requires Inv-loop μ-loop
+due-requires c κs = search needs
+
 word-requires : tie.Need-word-requires Inv-loop μ-loop
 word-requires c κs = search needs
 
-ended-requires : tie.Need-ended-requires Inv-loop μ-loop
-ended-requires c κs = search needs
+may-end-requires : tie.Need-may-end-requires Inv-loop μ-loop
+may-end-requires c κs = search needs
 
 returns : tie.Need-returns Inv-loop μ-loop
-returns c = search reading-end
-
-due-requires : tie.Need-due-requires Inv-loop μ-loop
-due-requires c κs = search needs
+returns c = (search reading-end, omega arith)
 
 read-field-requires : tie.Need-read-field-requires Inv-loop μ-loop
 read-field-requires c κs = search needs
@@ -42,11 +42,8 @@ array-write-numbers c = search needs
 enum-told : tie.Need-enum-told Inv-loop μ-loop
 enum-told c = search needs
 
-no-values-requires : tie.Need-no-values-requires Inv-loop μ-loop
-no-values-requires c κs = search needs
-
 returns-2 : tie.Need-returns-2 Inv-loop μ-loop
-returns-2 c = search reading-not
+returns-2 c = (search reading-not, omega arith)
 
 behind-requires : tie.Need-behind-requires Inv-loop μ-loop
 behind-requires c κs = search needs
@@ -60,11 +57,8 @@ loop-less c = search needs
 loop-again : tie.Need-loop-again Inv-loop μ-loop
 loop-again c = search reading-more
 
-no-values-requires-2 : tie.Need-no-values-requires-2 Inv-loop μ-loop
-no-values-requires-2 c κs = search needs
-
 returns-3 : tie.Need-returns-3 Inv-loop μ-loop
-returns-3 c = search reading-many
+returns-3 c = (search reading-many, omega arith)
 
 pub read-form-spec : {M : Type 1} → statement M
 read-form-spec =
@@ -73,20 +67,18 @@ read-form-spec =
     Inv-loop
     μ-loop
     loop-holds
-    word-requires
-    ended-requires
-    returns
     due-requires
+    word-requires
+    may-end-requires
+    returns
     read-field-requires
     enum-known-n
     mul-numbers
     array-write-numbers
     enum-told
-    no-values-requires
     returns-2
     behind-requires
     add-i
     loop-less
     loop-again
-    no-values-requires-2
     returns-3)
