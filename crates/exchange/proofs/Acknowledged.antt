@@ -18,7 +18,7 @@ use Rattle.handling.specs.Handling.{Message}
 use Rattle.handling.proofs.Tests.{is-same, or-cases}
 use Rattle.exchange.specs.Rounds.{left, right, Call, refused, writes, handles, ruled, alone}
 use Rattle.exchange.proofs.Core.{Settings, advertised, Machine, Core, message, changed, synced, marked, sent, features, started, gated, recv}
-use Rattle.exchange.proofs.Outcomes.{version, lower-of-two, error-final, outcome-final, same-oper}
+use Rattle.exchange.proofs.Outcomes.{version, version-is, error-final, outcome-final, same-oper}
 use Rattle.exchange.proofs.Numbers.{All-synced, sent-none, sent-wait, sent-acked, new-out, feature-is}
 use Rattle.exchange.proofs.Stages.{Fit, Low, Bound, Full, Concluded, bound-of, out-is, version-next}
 use Rattle.exchange.proofs.FirstRound.{start-asks}
@@ -306,7 +306,7 @@ module _ (s t : Settings) (p q : Core) where
     peer-answers d f a b c =
         let e = out-is t s q w (min (t .max) (s .max)) f b in
         record {
-          oper = ap (λ (o : Outcome). o .oper) e ∙ lower-of-two (advertised s f) f (t .of f) (s .of f) _ (w .feat f .outcome) (good f) (k .bound f) ∙ rw a (min-comm _ _);
+          oper = ap (λ (o : Outcome). o .oper) e ∙ version-is (advertised s f) f (t .of f) (s .of f) _ (w .feat f .outcome) (k .bound f) ∙ rw a (min-comm _ _);
           error = λ v.
               ap (λ (o : Outcome). o .error) e
               ∙ error-final (advertised s f) f (t .of f) (s .of f) _ (w .feat f .outcome) (good f) refl (λ a. k .same d f a c ∙ v ∙ min-comm _ _);

@@ -1,7 +1,6 @@
--- Laws of the rules, once for all features: lower of two, the Syncd law, and that no Error depends on an error flag received.
--- Assumes nothing.
+-- Laws of the rules, once for all features: lower of two, and the Syncd law. Assumes nothing.
 use Prim.Native.Nat.{ℕ, _≤_}
-use mathlib.Core.Path.{_≡_, refl, sym, ap, _∙_}
+use mathlib.Core.Path.{_≡_, refl}
 use mathlib.Core.Logic.{_⊎_, inl, inr, ⊎-elim, _↔_}
 use mathlib.Core.Bool.{Bool, true, false, not, _&&_, or-true}
 use lib.ListN.{length}
@@ -12,15 +11,11 @@ use Rattle.parameters.specs.declared.Feature.{Feature}
 use Rattle.parameters.specs.Parameters.{valid}
 use Rattle.feature.specs.declared.Reason.the-variants.{Bad, Waiting}
 use Rattle.feature.specs.declared.Setting.{Setting}
-use Rattle.feature.specs.declared.Outcome.{Outcome}
 use Rattle.feature.specs.declared.State.{State}
 use Rattle.feature.specs.Outcome.{Received, operOf, maxOf, parametersOf, lower, heldPeer, withoutPeer, judged, outcome}
 use Rattle.feature.specs.RulesLaws.{judged-oper}
 use Rattle.feature.specs.State.{acknowledged}
-use Rattle.port.specs.Sound.{SoundParameters}
-use Rattle.exchange.specs.Rounds.{Side, ruled}
 use Rattle.handling.proofs.Tests.{or-cases}
-use Rattle.exchange.proofs.Outcomes.{judged-error, alone-absent, alone-met}
 
 -- one readable sub-TLV: Oper becomes the lower of the two Max, whatever was received
 pub lower-of-two : (f : Feature) (max : ℕ) (s : Setting) (oper : ℕ) (r : Received) →
@@ -50,15 +45,3 @@ syncd-law rcvd seq x = (
       (or-cases (x .syncd) (x .sequence is rcvd && x .sequence is seq) e),
   ⊎-elim (λ h. rw h) (λ h. rw (eq-eqb (x .sequence) rcvd (h .0), eq-eqb (x .sequence) seq (h .1)) (or-true (x .syncd))),
 )
-
--- of two settings alone, the Error is the same whatever the peer's error flag
-pub error-alone : (f : Feature) (own peer : Side) (d e : Bool) → SoundParameters f (peer .setting .desired) →
-    ruled f own peer d .error ≡ ruled f own peer e .error
-error-alone f own peer d e h = by (peer .setting .advertise) refl
-  where
-    by : (b : Bool) → peer .setting .advertise ≡ b → ruled f own peer d .error ≡ ruled f own peer e .error
-    by false a = ap (λ (x : Outcome). x .error) (alone-absent f own peer d a ∙ sym (alone-absent f own peer e a))
-    by true a =
-        ap (λ (x : Outcome). x .error) (alone-met f own peer d h a)
-        ∙ judged-error f (own .setting) _ peer d e
-        ∙ sym (ap (λ (x : Outcome). x .error) (alone-met f own peer e h a))

@@ -2,6 +2,7 @@
 
 -- the exchange of messages
 pub mod Core
+pub mod Laws
 pub mod Outcomes
 pub mod Numbers
 pub mod Stages
@@ -25,8 +26,8 @@ pub mod Claims
 -- the theorems
 pub mod Demand3
 pub mod Recorders
+pub mod Handover
 pub mod Starting
 pub mod NotEmpty
 pub mod Tight
 pub mod Steady
-pub mod Laws

@@ -10,7 +10,7 @@ use borrow.Author.Tests.{le-ltb, eq-eqb, eqb-true, not-false}
 use Rattle.octets.specs.Words.{if_then_else_, _below_, _atmost_, _is_}
 use Rattle.octets.specs.Laws.{and-left}
 use Rattle.parameters.specs.declared.Feature.{Feature}
-use Rattle.parameters.specs.Parameters.{content}
+use Rattle.parameters.specs.Parameters.{valid, ours, stored, content}
 use Rattle.feature.specs.declared.Setting.{Setting}
 use Rattle.feature.specs.declared.Peer.{Peer}
 use Rattle.feature.specs.declared.Outcome.{Outcome}
@@ -20,8 +20,9 @@ use Rattle.feature.specs.State.{flags}
 use Rattle.port.specs.Sound.{SoundParameters}
 use Rattle.exchange.specs.Rounds.{Side, receivedAlone, ruled}
 use Rattle.exchange.proofs.Core.{written, changed}
+use Rattle.exchange.proofs.Laws.{lower-of-two}
 use Rattle.handling.proofs.Tests.{is-same, beq-same}
-use Rattle.feature.specs.RulesLaws.{judgedBy, judged-by, judged-oper, judged-peer}
+use Rattle.feature.specs.RulesLaws.{judgedBy, judged-by, judged-peer}
 
 -- the version that the two settings lead to, if the peer advertises
 unfoldable pub version : Bool → Side → Side → ℕ
@@ -97,25 +98,33 @@ ranked above same good f own old low p =
     else if not good then withoutPeer Bad low true
     else judged f (own .setting) low p
 
-outcome-by : (f : Feature) (own peer : Side) (old oper : ℕ) (error : Bool) → SoundParameters f (peer .setting .desired) →
+-- what is held of it: of application entries our own
+abbrev pub readOf : Feature → Side → Bool → Peer
+readOf f x error =
+    record { held = true; enable = x .setting .enable; willing = x .setting .willing; error = error; parameters = stored (ours f (content (x .setting .desired))) }
+
+outcome-read : (f : Feature) (own peer : Side) (old oper : ℕ) (error : Bool) → valid f (content (peer .setting .desired)) ≡ true →
     outcome f (own .max) (own .setting) old (sent1 oper peer error)
-    ≡ ranked (peer .max below oper) (oper is min (own .max) (peer .max)) true f own old (min (own .max) (peer .max)) (heldOf peer error)
+    ≡ ranked (peer .max below oper) (oper is min (own .max) (peer .max)) true f own old (min (own .max) (peer .max)) (readOf f peer error)
 unfolding outcome ranked
-outcome-by f own peer old oper error h =
+outcome-read f own peer old oper error v =
     simp (
       le-ltb (length (sent1 oper peer error .value)) 4 (omega arith),
       flag-enable (peer .setting .enable) (peer .setting .willing) error,
       flag-willing (peer .setting .enable) (peer .setting .willing) error,
       flag-error (peer .setting .enable) (peer .setting .willing) error,
-      h .valid,
-      h .own,
-      ← h .whole,
+      v,
     )
 
-ranked-oper : (b : Bool) (f : Feature) (own : Side) (old low : ℕ) (p : Peer) → ranked false b true f own old low p .oper ≡ low
-unfolding ranked
-ranked-oper false f own old low p = refl
-ranked-oper true f own old low p = judged-oper f (own .setting) low p
+-- which is all of what a port has
+read-whole : (f : Feature) (peer : Side) (error : Bool) → SoundParameters f (peer .setting .desired) → readOf f peer error ≡ heldOf peer error
+read-whole f peer error h = rw (h .own, ← h .whole) refl
+
+outcome-by : (f : Feature) (own peer : Side) (old oper : ℕ) (error : Bool) → SoundParameters f (peer .setting .desired) →
+    outcome f (own .max) (own .setting) old (sent1 oper peer error)
+    ≡ ranked (peer .max below oper) (oper is min (own .max) (peer .max)) true f own old (min (own .max) (peer .max)) (heldOf peer error)
+outcome-by f own peer old oper error h =
+    outcome-read f own peer old oper error (h .valid) ∙ ap (ranked _ _ true f own old (min (own .max) (peer .max))) (read-whole f peer error h)
 
 -- the peer that is held afterwards, if one is
 ranked-peer : (a b : Bool) (f : Feature) (own : Side) (old low : ℕ) (p : Peer) (P : Peer → Type 0) → P noPeer → P p → P (ranked a b true f own old low p .peer)
@@ -130,12 +139,12 @@ unfolding outcome written
 peer-is false f own peer old o P h n k = n
 peer-is true f own peer old o P h n k = rw (outcome-by f own peer old (o .oper) (o .error) h) (ranked-peer _ _ f own old _ (heldOf peer (o .error)) P n (k refl))
 
--- lower of two, whatever Oper came
-pub lower-of-two : (adv : Bool) (f : Feature) (own peer : Side) (old : ℕ) (o : Outcome) → SoundParameters f (peer .setting .desired) →
-    (adv ≡ true → o .oper ≤ peer .max) → outcome f (own .max) (own .setting) old (written adv peer o) .oper ≡ version adv own peer
+-- a sub-TLV that a port wrote is readable: Oper becomes the version, whatever Oper came
+pub version-is : (adv : Bool) (f : Feature) (own peer : Side) (old : ℕ) (o : Outcome) → (adv ≡ true → o .oper ≤ peer .max) →
+    outcome f (own .max) (own .setting) old (written adv peer o) .oper ≡ version adv own peer
 unfolding outcome written version
-lower-of-two false f own peer old o h k = refl
-lower-of-two true f own peer old o h k = rw (outcome-by f own peer old (o .oper) (o .error) h, le-ltb (peer .max) (o .oper) (k refl)) (ranked-oper _ f own old _ _)
+version-is false f own peer old o k = refl
+version-is true f own peer old o k = lower-of-two f (own .max) (own .setting) old (sent1 (o .oper) peer (o .error)) refl (omega arith) (k refl)
 
 -- the received Oper is the lower of the two Max
 in-step : (f : Feature) (own peer : Side) (old oper : ℕ) (error : Bool) → SoundParameters f (peer .setting .desired) → oper ≡ min (own .max) (peer .max) →
@@ -151,10 +160,30 @@ pub alone-absent : (f : Feature) (own peer : Side) (error : Bool) → peer .sett
 unfolding ruled receivedAlone outcome
 alone-absent f own peer error e = rw e
 
+pub alone-read : (f : Feature) (own peer : Side) (error : Bool) → valid f (content (peer .setting .desired)) ≡ true → peer .setting .advertise ≡ true →
+    ruled f own peer error ≡ judged f (own .setting) (min (own .max) (peer .max)) (readOf f peer error)
+unfolding ruled receivedAlone ranked
+alone-read f own peer error v e =
+    rw e
+    (outcome-read f own peer (own .max) (min (own .max) (peer .max)) error v
+    ∙ simp (le-ltb (peer .max) (min (own .max) (peer .max)) (min-le-right (own .max) (peer .max)), eq-eqb (min (own .max) (peer .max)) (min (own .max) (peer .max)) refl))
+
 pub alone-met : (f : Feature) (own peer : Side) (error : Bool) → SoundParameters f (peer .setting .desired) → peer .setting .advertise ≡ true →
     ruled f own peer error ≡ judged f (own .setting) (min (own .max) (peer .max)) (heldOf peer error)
-unfolding ruled receivedAlone
-alone-met f own peer error h e = rw e (in-step f own peer (own .max) (min (own .max) (peer .max)) error h refl)
+alone-met f own peer error h e =
+    alone-read f own peer error (h .valid) e ∙ ap (judged f (own .setting) (min (own .max) (peer .max))) (read-whole f peer error h)
+
+-- of two settings alone, the Error is the same whatever the peer's error flag
+pub error-alone : (f : Feature) (own peer : Side) (d e : Bool) → SoundParameters f (peer .setting .desired) →
+    ruled f own peer d .error ≡ ruled f own peer e .error
+error-alone f own peer d e h = by (peer .setting .advertise) refl
+  where
+    by : (b : Bool) → peer .setting .advertise ≡ b → ruled f own peer d .error ≡ ruled f own peer e .error
+    by false a = ap (λ (x : Outcome). x .error) (alone-absent f own peer d a ∙ sym (alone-absent f own peer e a))
+    by true a =
+        ap (λ (x : Outcome). x .error) (alone-met f own peer d h a)
+        ∙ judged-error f (own .setting) _ peer d e
+        ∙ sym (ap (λ (x : Outcome). x .error) (alone-met f own peer e h a))
 
 -- the peer runs at the version already: the Error is final
 pub error-final : (adv : Bool) (f : Feature) (own peer : Side) (old : ℕ) (o : Outcome) → SoundParameters f (peer .setting .desired) →

@@ -12,7 +12,7 @@ use Rattle.port.specs.Sound.{SoundParameters}
 use Rattle.exchange.specs.Rounds.{ruled, alone}
 use Rattle.exchange.proofs.Core.{Settings, advertised, Machine, Core, written, message, changed, synced, marked, gated, recv}
 use Rattle.handling.proofs.Tests.{some-false}
-use Rattle.exchange.proofs.Outcomes.{version, version-le, lower-of-two, error-final, outcome-final, unchanged}
+use Rattle.exchange.proofs.Outcomes.{version, version-le, version-is, error-final, outcome-final, unchanged}
 use Rattle.exchange.proofs.Numbers.{All-synced, Begun, Asked, Answered, Done, Quiet, new-out, feature-is, done}
 
 -- the parameters that an end is set to are valid, and held as they are written
@@ -86,7 +86,7 @@ module _ (s t : Settings) (p q : Core) (low : ℕ) where
   module _ (good : Fit t) where
     pub version-next : Bound t s q → Version s t next-port
     version-next h f a =
-        ap (λ (o : Outcome). o .oper) (out-is f a) ∙ lower-of-two (advertised t f) f (s .of f) (t .of f) _ (q .feat f .outcome) (good f) (h f)
+        ap (λ (o : Outcome). o .oper) (out-is f a) ∙ version-is (advertised t f) f (s .of f) (t .of f) _ (q .feat f .outcome) (h f)
 
     pub error-next : Version t s q → Error s t next-port
     error-next h f a =
