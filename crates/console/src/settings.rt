@@ -1,4 +1,4 @@
-// The settings of ports, four lines each, which make a recorder.
+// The settings of ports, four lines each, three for Rev 1.0, which make a recorder.
 use crate::Lines;
 use faults::Fault;
 use feature::Switches;
@@ -13,6 +13,7 @@ use script::Line;
 use script::Part;
 use script::PortWord;
 use script::Unread;
+use tlv::Revision;
 
 // A setting, with the number of its line.
 pub struct Setting {
@@ -23,15 +24,18 @@ pub struct Setting {
     pub octets: [u8; 513],
 }
 
-// What a control line says: its port, and whether it begins with it, and the highest version; with the number of the line.
+// What a control line says: its port, and whether it begins with it, the highest version and the revision; with the number of the
+// line.
 pub struct Head {
     pub number: u64,
     pub given: bool,
     pub port: u8,
     pub max: u8,
+    pub revision: Revision,
 }
 
-// The settings of a port. Where `good` is false the line that is `due` cannot be read, or the input ended before it.
+// The settings of a port; of Rev 1.0 what stands for applications is not looked at. Where `good` is false the line that is `due`
+// cannot be read, or the input ended before it.
 pub struct Settings {
     pub good: bool,
     pub due: Part,
@@ -42,13 +46,14 @@ pub struct Settings {
     pub applications: Setting,
 }
 
-// A line of the settings, and its port; where `good` is false it cannot be read, or is missing.
+// A line of the settings, and its port, and the revision of a control line; where `good` is false it cannot be read, or is missing.
 struct Read {
     good: bool,
     due: Part,
     lines: Lines,
     given: bool,
     port: u8,
+    revision: Revision,
     setting: Setting,
 }
 
@@ -96,8 +101,16 @@ fn setting_on(number: u64, l: Line) -> Setting {
             enable,
             willing,
         } => setting_with(number, max, switches(advertise, enable, willing), l),
-        Kind::Control(max) => setting_with(number, max, switches(false, false, false), l),
+        Kind::Control(max, _) => setting_with(number, max, switches(false, false, false), l),
         _ => setting_with(number, 0, switches(false, false, false), l),
+    }
+}
+
+// The revision that a control line names.
+fn revision_of(k: Kind) -> Revision {
+    match k {
+        Kind::Control(_, r) => r,
+        _ => Revision::Rev101,
     }
 }
 
@@ -132,6 +145,7 @@ fn read_setting(buffer: &mut [u8], l: Lines, due: Part, ports: bool) -> Read {
         lines: lines,
         given: w.given,
         port: w.number,
+        revision: revision_of(kind),
         setting: setting_on(lines.number, said),
     }
 }
@@ -148,22 +162,25 @@ fn read_behind(buffer: &mut [u8], r: Read, due: Part, ports: bool) -> Read {
 
 fn head_of(r: Read) -> Head {
     let s = r.setting;
+    let revision = r.revision;
     Head {
         number: s.number,
         given: r.given,
         port: r.port,
         max: s.max,
+        revision: revision,
     }
 }
 
-fn settings_of(control: Head, groups: Read, flow: Read, applications: Read) -> Settings {
+// The settings of the lines, of which `last` is applications, or for Rev 1.0 flow control again.
+fn settings_of(control: Head, groups: Read, flow: Read, last: Read) -> Settings {
     let g = groups.setting;
     let w = flow.setting;
-    let a = applications.setting;
-    let lines = applications.lines;
-    let due = applications.due;
+    let a = last.setting;
+    let lines = last.lines;
+    let due = last.due;
     Settings {
-        good: applications.good,
+        good: last.good,
         due: due,
         lines: lines,
         control: control,
@@ -173,14 +190,23 @@ fn settings_of(control: Head, groups: Read, flow: Read, applications: Read) -> S
     }
 }
 
-// The last two of the four lines.
-fn read_rest(buffer: &mut [u8], control: Head, groups: Read, ports: bool) -> Settings {
-    let flow = read_behind(buffer, groups, Part::Flow, ports);
-    let applications = read_behind(buffer, flow, Part::Applications, ports);
-    settings_of(control, groups, flow, applications)
+// The line behind flow control, which Rev 1.0 does not have.
+fn read_last(buffer: &mut [u8], r: Revision, flow: Read, ports: bool) -> Read {
+    if !tlv::has_applications(r) {
+        return flow;
+    }
+    read_behind(buffer, flow, Part::Applications, ports)
 }
 
-// Reads the four lines of a port, up to one that cannot be read. Lines may begin with their port only where `ports` says so.
+// The lines behind groups.
+fn read_rest(buffer: &mut [u8], control: Head, groups: Read, ports: bool) -> Settings {
+    let revision = control.revision;
+    let flow = read_behind(buffer, groups, Part::Flow, ports);
+    let last = read_last(buffer, revision, flow, ports);
+    settings_of(control, groups, flow, last)
+}
+
+// Reads the lines of a port, up to one that cannot be read. Lines may begin with their port only where `ports` says so.
 pub fn read_port(buffer: &mut [u8], l: Lines, ports: bool) -> Settings {
     let control = read_setting(buffer, l, Part::Control, ports);
     let head = head_of(control);
@@ -207,12 +233,17 @@ pub fn first_invalid(s: Settings) -> Invalid {
     let g = s.groups;
     let w = s.flow;
     let a = s.applications;
+    let c = s.control;
+    let revision = c.revision;
     let first = invalid_at(g.number, fault(Feature::Groups, g));
     if first.line != 0 {
         return first;
     }
     let second = invalid_at(w.number, fault(Feature::Flow, w));
     if second.line != 0 {
+        return second;
+    }
+    if !tlv::has_applications(revision) {
         return second;
     }
     invalid_at(a.number, fault(Feature::Applications, a))
@@ -224,7 +255,9 @@ pub fn create(p: Port, s: Settings) -> Event {
     let g = s.groups;
     let w = s.flow;
     let a = s.applications;
+    let revision = c.revision;
     let versions = Versions {
+        revision: revision,
         control: c.max,
         groups: g.max,
         flow: w.max,

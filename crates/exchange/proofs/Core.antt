@@ -3,6 +3,7 @@ use Prim.Native.Nat.{ℕ, min}
 use mathlib.Core.Bool.{Bool, true, false, not, _&&_, _||_, Bool·beq}
 use mathlib.Core.List.{[], _∷_}
 use Rattle.octets.specs.Words.{_is_}
+use Rattle.tlv.specs.declared.Revision.{Revision}
 use Rattle.parameters.specs.declared.Feature.{Feature}
 use Rattle.parameters.specs.Parameters.{content}
 use Rattle.feature.specs.declared.Outcome.{Outcome}
@@ -15,6 +16,7 @@ use Rattle.exchange.specs.Rounds.{Side}
 
 -- what an end is set to: control's highest version, and each feature's with its setting
 pub record Settings : Type 0 where
+  pub revision : Revision
   pub max : ℕ
   pub of : Feature → Side
 

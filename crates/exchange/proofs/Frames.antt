@@ -119,6 +119,11 @@ module _ (q : Port) (h : SoundPort q) where
   has-read Flow = part-read (q .flow) _ (ap (λ (x : Values). x .flow) (read-back .values)) _ refl
   has-read Applications = part-read (q .applications) _ (ap (λ (x : Values). x .applications) (read-back .values)) _ refl
 
+  -- of a port that does not advertise applications none are found
+  pub none-written : q .applications .setting .advertise ≡ false → contents .applications .count ≡ 0
+  unfolding core.written core.message
+  none-written a = ap (λ (r : Received). r .count) (has-read Applications) ∙ rw a refl
+
   pub message-read : message (frame q) contents ≡ core.message (settings q) (view q)
   unfolding core.message
   message-read =

@@ -31,3 +31,4 @@ pub mod Starting
 pub mod NotEmpty
 pub mod Tight
 pub mod Steady
+pub mod Revisions

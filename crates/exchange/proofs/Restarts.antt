@@ -4,11 +4,13 @@ use Prim.Native.Nat.{ℕ, _<_}
 use native.Mathlib.Omega.{arith}
 use mathlib.Core.Path.{_≡_, refl, sym, ap, _∙_}
 use mathlib.Core.Bool.{Bool, true, false, not, _&&_, Bool·beq, false≢true}
-use mathlib.Core.List.{List}
+use mathlib.Core.List.{List, []}
 use Rattle.octets.specs.Words.{if_then_else_, _is_}
 use Rattle.tlv.specs.declared.Refusal.the-variants.{NotRunning}
 use Rattle.tlv.specs.Refusals.{refusalNumber}
+use Rattle.tlv.specs.Revisions.{hasApplications}
 use Rattle.parameters.specs.declared.Feature.{Feature}
+use Rattle.parameters.specs.declared.Feature.the-variants.{Applications}
 use Rattle.feature.specs.declared.Switches.{Switches}
 use Rattle.feature.specs.State.{next, stopped}
 use Rattle.port.specs.declared.Flag.{Flag}
@@ -17,7 +19,7 @@ use Rattle.port.specs.declared.Port.{Port}
 use Rattle.port.specs.declared.Versions.{Versions}
 use Rattle.port.specs.declared.Raised.{Raised}
 use Rattle.port.specs.Parts.{featureOf, maxOf, withControl, withFeatures, some, flagOf, withFlag, running}
-use Rattle.port.specs.PortEvents.{withSeq, unsynced, sent, freshParts, freshPort, refused, unchanged, event, createdPort, settingsValid, restarts, flagNotice, flagSet, flagged, peerGone}
+use Rattle.port.specs.PortEvents.{withSeq, unsynced, sent, freshParts, freshPort, refused, unchanged, event, switchedOff, createdPort, settingsValid, restarts, flagNotice, flagSet, flagged, peerGone}
 use Rattle.port.specs.Replies.{eventReply}
 use Rattle.port.specs.Sound.{SoundPort}
 use Rattle.handling.proofs.Tests.{beq-not}
@@ -128,10 +130,11 @@ module _ (p : Port) (h : Standing p) (n : p .several ≡ false) where
 
 -- a port that is created
 pub created-starts : (v : Versions) (w : Feature → Switches) (o : Feature → List ℕ) → v .control < 256 → ((f : Feature) → maxOf v f < 256)
-    → settingsValid o ≡ true → JustStarted (createdPort v w o)
-created-starts v w o control features good =
+    → settingsValid o ≡ true → (hasApplications (v .revision) ≡ false → (w Applications ≡ switchedOff) × (o Applications ≡ []) × (v .applications ≡ 0))
+    → JustStarted (createdPort v w o)
+created-starts v w o control features good without =
     record {
-      sound = created-stands v w o control features good .sound;
+      sound = created-stands v w o control features good without .sound;
       runs = created-runs v w o;
       single = created-single v w o;
       fresh = created-fresh v w o;

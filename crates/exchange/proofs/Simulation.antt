@@ -58,7 +58,7 @@ given-next own peer p b (some o) (some m) h v k =
     let q : Port = k .0 in
     let g : message (settings q) (view q) ≡ m = ap (λ (x : Settings). message x (view q)) (k .1 .set) ∙ sym (k .3) in
     let e : handling.handled p o .port ≡ completed p (once (message (settings q) (view q)) p) =
-    ap (λ x. handling.handled p x .port) (k .2) ∙ delivered-port p q (h .runs) (h .single) (k .1 .sound) in (
+    ap (λ x. handling.handled p x .port) (k .2) ∙ delivered-port p q (h .runs) (h .single) (h .sound) (k .1 .sound) in (
       subst (Runs own) (sym e) (runs-next own peer p q h (k .1)),
       ap view e ∙ view-once (message (settings q) (view q)) p ∙ (λ i. recv (h .set i) (v i) (g i)),
     )

@@ -26,7 +26,7 @@ fresh-side max s false e = rw e
 
 module _ (p : Port) where
   pub fresh-settings : settings (freshParts p) ≡ settings p
-  fresh-settings = λ i. record { max = p .control .max; of = λ f. sides f i }
+  fresh-settings = λ i. record { revision = p .revision; max = p .control .max; of = λ f. sides f i }
     where
       sides : (f : Feature) → sideOf (freshParts p) f ≡ sideOf p f
       sides Groups = fresh-side (p .groups .max) (p .groups .setting) _ refl

@@ -9,13 +9,14 @@ use Rattle.octets.specs.Words.{if_then_else_}
 use Rattle.tlv.specs.declared.Refusal.the-variants.{InvalidSetting, NoPort}
 use Rattle.tlv.specs.Refusals.{refusalNumber}
 use Rattle.parameters.specs.declared.Feature.{Feature}
+use Rattle.port.specs.declared.Port.{Port}
 use Rattle.feature.specs.declared.Switches.{Switches}
 use Rattle.notices.specs.Notices.{PortNumber, isPort}
 use Rattle.notices.specs.PortLaws.{port-is}
 use Rattle.port.specs.declared.Flag.{Flag}
 use Rattle.port.specs.declared.Flag.the-variants.{Several}
 use Rattle.port.specs.declared.Versions.{Versions}
-use Rattle.port.specs.PortEvents.{refused, made, createdPort, settingsValid, flagged, peerGone}
+use Rattle.port.specs.PortEvents.{refused, made, createdPort, settingsValid, versionsFor, switchesFor, parametersFor, flagged, peerGone}
 use Rattle.port.specs.PortEvents as events
 use Rattle.port.specs.Replies.{eventReply}
 use Rattle.handling.proofs.Standing.{Standing}
@@ -24,7 +25,7 @@ use Rattle.recorder.specs.Recorder.{portAt, happens, changed, created}
 use Rattle.recorder.specs.Calls.{create, gone, flag, eventOf, afterAt, replyAt}
 use Rattle.recorder.specs.Sound.{InRange, SoundRecorder}
 use Rattle.recorder.proofs.Independent.{four-after, own-after}
-use Rattle.recorder.proofs.Reachable.{reachable-sound}
+use Rattle.recorder.proofs.Reachable.{versions-small, reachable-sound}
 use Rattle.exchange.specs.Demand3.{JustStarted}
 use Rattle.exchange.specs.Starting.{Restarts, Starting}
 use Rattle.exchange.proofs.Restarts.{gone-starts, flag-starts, several-starts, created-starts}
@@ -63,13 +64,20 @@ module _ (r : Recorder) (h : SoundRecorder r) (n : ℕ) where
 
   created-by : (v : Versions) (w : Feature → Switches) (o : Feature → List ℕ) → InRange (create v w o) → replyAt r n (create v w o) .number ≡ 0
       → JustStarted (portAt (afterAt r n (create v w o)) n)
-  unfolding replyAt eventOf created events.created refusalNumber
-  created-by v w o k e = rw (own-after r (h .four) n (create v w o)) (by (isPort n) (settingsValid o) refl e)
+  unfolding replyAt eventOf created events.created events.createdWith refusalNumber
+  created-by v w o k e = rw (own-after r (h .four) n (create v w o)) (by (isPort n) (settingsValid taken) refl e)
     where
-      by : (a b : Bool) → settingsValid o ≡ b
-          → eventReply ((if a then if b then made (portAt r n) (createdPort v w o) else refused InvalidSetting (portAt r n) else refused NoPort (portAt r n)) .answer) .number ≡ 0
-          → JustStarted ((if a then if b then made (portAt r n) (createdPort v w o) else refused InvalidSetting (portAt r n) else refused NoPort (portAt r n)) .port)
-      by true true good e = created-starts v w o (k .0) (k .1) good
+      taken : Feature → List ℕ
+      taken = parametersFor (v .revision) o
+
+      made-port : Port
+      made-port = createdPort (versionsFor v) (switchesFor (v .revision) w) taken
+
+      by : (a b : Bool) → settingsValid taken ≡ b
+          → eventReply ((if a then if b then made (portAt r n) made-port else refused InvalidSetting (portAt r n) else refused NoPort (portAt r n)) .answer) .number ≡ 0
+          → JustStarted ((if a then if b then made (portAt r n) made-port else refused InvalidSetting (portAt r n) else refused NoPort (portAt r n)) .port)
+      by true true good e =
+          created-starts (versionsFor v) (switchesFor (v .revision) w) taken (k .0) (versions-small v (k .1)) good (λ t. (rw t refl, rw t refl, rw t refl))
       by true false good e = absurd (omega arith)
       by false b good e = absurd (omega arith)
 

@@ -28,6 +28,7 @@ same-port : (s : Settings) (p q : Port) → Runs s p → Runs s q → view p ≡
 same-port s p q h k e =
     let a : settings p ≡ settings q = h .set ∙ sym (k .set) in
     λ i. record {
+      revision = a i .revision;
       admin = (first p (h .runs) ∙ sym (first q (k .runs))) i;
       receive = (second p (h .runs) ∙ sym (second q (k .runs))) i;
       transmit = (third p (h .runs) ∙ sym (third q (k .runs))) i;

@@ -2,13 +2,15 @@
 use Prim.Native.Nat.{ℕ, _<_}
 use native.Mathlib.Omega.{arith}
 use mathlib.Core.Path.{_≡_, refl, sym, _∙_}
-use mathlib.Core.Bool.{true, false}
+use mathlib.Core.Bool.{true, false, false≢true}
 use mathlib.Core.List.{List, [], _∷_}
 use mathlib.Core.Option.{none}
 use lib.ListN.{length, replicate}
 use lib.Dec.{lit<}
 use Rattle.octets.specs.Octets.{same}
 use Rattle.tlv.specs.Layout as layout
+use Rattle.tlv.specs.Revisions as revisions
+use Rattle.tlv.specs.declared.Revision.the-variants.{Rev101}
 use Rattle.parameters.specs.declared.Feature.{Feature}
 use Rattle.parameters.specs.declared.Feature.the-variants.{Groups, Flow, Applications}
 use Rattle.parameters.specs.Parameters as parameters
@@ -29,7 +31,7 @@ use Rattle.exchange.proofs.Restarts.{created-starts}
 
 -- W7: "W6 with control Max 0 and 1, flow control Max 1 and 0 in that order", masks 08 and 10
 unfoldable versions : ℕ → ℕ → Versions
-versions control flow = record { control = control; groups = 0; flow = flow; applications = 0 }
+versions control flow = record { revision = Rev101; control = control; groups = 0; flow = flow; applications = 0 }
 
 unfoldable unwilling : Feature → Switches
 unwilling f = record { advertise = true; enable = true; willing = false }
@@ -52,18 +54,18 @@ small flow h control Flow = h
 small flow h control Applications = lit< tt
 
 begun : Begun w7
-unfolding w7 created desired versions events.settingsValid parameters.validLocal parameters.localValues parameters.valid parameters.validGroups parameters.validFlow parameters.validApplications parameters.isOurs parameters.oursOf parameters.ours parameters.fewAndNew parameters.goodHalves parameters.sum parameters.allFrom parameters.newName parameters.sameName parameters.ones
+unfolding w7 created desired versions revisions.hasApplications events.settingsValid parameters.validLocal parameters.localValues parameters.valid parameters.validGroups parameters.validFlow parameters.validApplications parameters.isOurs parameters.oursOf parameters.ours parameters.fewAndNew parameters.goodHalves parameters.sum parameters.allFrom parameters.newName parameters.sameName parameters.ones
 begun =
     record {
-      l = created-starts (versions 0 1) unwilling (desired 8) (lit< tt) (small 1 (lit< tt) 0) refl;
-      r = created-starts (versions 1 0) unwilling (desired 16) (lit< tt) (small 0 (lit< tt) 1) refl;
+      l = created-starts (versions 0 1) unwilling (desired 8) (lit< tt) (small 1 (lit< tt) 0) refl (λ e. absurd (false≢true (sym e)));
+      r = created-starts (versions 1 0) unwilling (desired 16) (lit< tt) (small 0 (lit< tt) 1) refl (λ e. absurd (false≢true (sym e)));
       no-l = refl;
       no-r = refl;
     }
 
 -- SeqNo 2, RcvdAckNo 1
 numbers : (execAll (rounds (replicate 4 plainRound)) w7 .r .control .seq ≡ 2) × (execAll (rounds (replicate 4 plainRound)) w7 .r .control .rcvd ≡ 1)
-unfolding w7 created desired versions unwilling lent plainRound layout.headAt layout.foundAgain layout.counts layout.noted layout.onward layout.walkFrom layout.walked layout.isDcbx layout.judgedControl layout.readFrame parameters.featureNumber parameters.goodHalves parameters.sum parameters.validGroups parameters.validFlow parameters.sameName parameters.allFrom parameters.newName parameters.validApplications parameters.valid parameters.ones parameters.localValues parameters.validLocal parameters.clash parameters.clearOf parameters.compatible parameters.isOurs parameters.oursOf parameters.ours parameters.fewAndNew parameters.stored parameters.content rules.judged rules.outcome state.freshAt state.subTlv state.acknowledged state.received state.changed state.marked writing.subTlvs writing.frame writing.toWrite writing.asks writing.written writing.output events.unsynced events.sent events.becomes events.started handling.exchanged handling.once handling.steps1to4 handling.breaks handling.rejected handling.frameEvent handling.accepted handling.given handling.handled ends.other ends.afterWrite ends.delivered ends.exec ends.execAll ends.quiet ends.maybe ends.writeOf ends.handleOf ends.calls ends.rounds same
+unfolding w7 created desired versions unwilling lent plainRound layout.headAt layout.foundAgain layout.counts layout.noted layout.onward layout.walkFrom layout.walked layout.isDcbx layout.judgedControl layout.readFrame revisions.hasApplications revisions.skipping revisions.readFor parameters.featureNumber parameters.goodHalves parameters.sum parameters.validGroups parameters.validFlow parameters.sameName parameters.allFrom parameters.newName parameters.validApplications parameters.valid parameters.ones parameters.localValues parameters.validLocal parameters.clash parameters.clearOf parameters.compatible parameters.isOurs parameters.oursOf parameters.ours parameters.fewAndNew parameters.stored parameters.content rules.judged rules.outcome state.freshAt state.subTlv state.acknowledged state.received state.changed state.marked writing.subTlvs writing.frame writing.toWrite writing.asks writing.written writing.output events.unsynced events.sent events.becomes events.started handling.exchanged handling.once handling.steps1to4 handling.breaks handling.rejected handling.frameEvent handling.accepted handling.given handling.handled ends.other ends.afterWrite ends.delivered ends.exec ends.execAll ends.quiet ends.maybe ends.writeOf ends.handleOf ends.calls ends.rounds same
 numbers = (refl, refl)
 
 pub five-are-needed : (c : Ends) × Begun c × (rs : List Round) × (length rs ≡ 4) × Proper (rounds rs) c

@@ -18,7 +18,7 @@ use Rattle.exchange.proofs.Core.{Settings, Core, machineOf}
 use Rattle.exchange.proofs.Steps.{sideOfState, marked-same, stepped, side-stepped, machine-stepped}
 
 abbrev pub settings : Port → Settings
-settings p = record { max = p .control .max; of = sideOf p }
+settings p = record { revision = p .revision; max = p .control .max; of = sideOf p }
 
 abbrev pub view : Port → Core
 view p =
@@ -87,7 +87,7 @@ kept-counted : (b : Bool) (p : Port) → Kept p (counted b p)
 unfolding counted
 kept-counted true p =
     record {
-      settings = λ i. record { max = p .control .max; of = λ f. sideOfState (of-control p (withSeq (p .control) (next (p .control .seq))) f i) };
+      settings = λ i. record { revision = p .revision; max = p .control .max; of = λ f. sideOfState (of-control p (withSeq (p .control) (next (p .control .seq))) f i) };
       admin = refl;
       receive = refl;
       transmit = refl;
@@ -125,7 +125,7 @@ view-marked p b =
 pub kept-marked : (p : Port) (b : Bool) → Kept p (withBroken p b)
 kept-marked p b =
     record {
-      settings = λ i. record { max = p .control .max; of = λ f. sideOfState (of-control p (withBroken p b .control) f i) };
+      settings = λ i. record { revision = p .revision; max = p .control .max; of = λ f. sideOfState (of-control p (withBroken p b .control) f i) };
       admin = refl;
       receive = refl;
       transmit = refl;
@@ -165,6 +165,7 @@ module _ (low : ℕ) (m : Message) (p : Port) where
   kept-exchanged =
       record {
         settings = λ i. record {
+          revision = p .revision;
           max = p .control .max;
           of = λ f. (ap sideOfState (feature-exchanged f) ∙ side-stepped f (m .ack) (p .control .seq) (m .has f) (featureOf p f) _ refl) i;
         };
@@ -177,7 +178,7 @@ module _ (low : ℕ) (m : Message) (p : Port) where
   kept-met : Kept p (step5 p (withControl p (met low (p .control))))
   kept-met =
       record {
-        settings = λ i. record { max = p .control .max; of = λ f. sideOfState (feature-met f i) };
+        settings = λ i. record { revision = p .revision; max = p .control .max; of = λ f. sideOfState (feature-met f i) };
         admin = refl;
         receive = refl;
         transmit = refl;

@@ -77,7 +77,8 @@ pub record AloneLaws : Type 0 where
 
 -- ---- the exchange itself: "swapping the ends swaps the settled outcomes"
 
--- two ports with the same highest versions and settings
+-- two ports with the same highest versions and settings. Of a revision (02, E11) nothing is asked: what it means for the outcome stands in the
+-- settings, so that the revision of each end may go with it or not.
 pub record SameSettings (p q : Port) : Type 0 where
   pub max : p .control .max ≡ q .control .max
   pub features : (f : Feature) → sideOf p f ≡ sideOf q f

@@ -7,3 +7,4 @@ pub mod Handover
 pub mod Starting
 pub mod Trials
 pub mod Worked
+pub mod Revisions

@@ -14,6 +14,7 @@ use Rattle.tlv.specs.declared.Reading.{Reading}
 use Rattle.tlv.specs.declared.Reading.the-variants as read
 use Rattle.tlv.specs.Refusals.{Reply, refusalNumber}
 use Rattle.tlv.specs.Layout as layout
+use Rattle.tlv.specs.declared.Revision.the-variants.{Rev101, Rev10}
 use Rattle.parameters.specs.declared.Feature.{Feature}
 use Rattle.parameters.specs.declared.Feature.the-variants.{Groups, Flow, Applications}
 use Rattle.parameters.specs.Parameters as parameters
@@ -150,7 +151,11 @@ percentages last = (0x00 ∷ 0x00 ∷ 0x00 ∷ 0x00 ∷ 0x32 ∷ 0x00 ∷ 0x00 �
 -- creation with switches for groups and applications and for flow control, the highest versions of control and of flow control, and the
 -- parameters
 unfoldable pub creation : Switches → Switches → ℕ → ℕ → (Feature → List ℕ) → Operation
-creation w x controlMax flowMax p = create (record { control = controlMax; groups = 0; flow = flowMax; applications = 0 }) (three w x w) p
+creation w x controlMax flowMax p = create (record { revision = Rev101; control = controlMax; groups = 0; flow = flowMax; applications = 0 }) (three w x w) p
+
+-- 02, E11: W2's settings for Rev 1.0, beside which something is given for applications
+unfoldable pub older : List ℕ → Operation
+older p = create (record { revision = Rev10; control = 0; groups = 0; flow = 0; applications = 1 }) (three on on on) (three (desired 8 Groups) (desired 8 Flow) p)
 
 -- with percentages of 101
 unfoldable pub invalid : Operation
@@ -168,6 +173,15 @@ started w x controlMax flowMax mask = after blank (at 1 (creation w x controlMax
 -- with W2's own
 unfoldable pub w2Recorder : Recorder
 w2Recorder = started on on 0 0 8
+
+-- a recorder whose port 1 is of Rev 1.0, with W2's own
+unfoldable pub olderRecorder : Recorder
+olderRecorder = after blank (at 1 (older (desired 8 Applications)))
+
+-- how often a reader of a revision finds each type, 1 to 4
+unfoldable pub countsIn : Reading → List ℕ
+countsIn (read.Refused why place) = refusalNumber why ∷ place ∷ []
+countsIn (read.Accepted c) = c .control .count ∷ c .groups .count ∷ c .flow .count ∷ c .applications .count ∷ []
 
 -- 0 and the values, or a refusal's number and its place
 unfoldable pub spoken : Reply → List ℕ

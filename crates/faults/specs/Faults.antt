@@ -45,14 +45,13 @@ flowFault p =
 unfoldable pub foreignEntry : List ℕ → ℕ
 foreignEntry p = firstNot (entryCount p) 0 (isOurs p)
 
--- "the first pair by its second place, then its first": the first entry whose name an entry before it has
+-- "the first entry that repeats one, and the one it repeats"
 unfoldable pub secondEntry : List ℕ → ℕ
 secondEntry p = firstNot (entryCount p) 0 (newName p)
 
 unfoldable pub otherEntry : List ℕ → ℕ → ℕ → Bool
 otherEntry p i j = not (sameName p i p j)
 
--- and the first that has it
 unfoldable pub firstEntry : List ℕ → ℕ → ℕ
 firstEntry p i = firstNot i 0 (otherEntry p i)
 

@@ -16,7 +16,8 @@ use Rattle.port.specs.declared.Control.{Control}
 use Rattle.port.specs.declared.Port.{Port}
 use Rattle.port.specs.Parts.{featureOf, withControl, withFeatures, some, running}
 use Rattle.port.specs.PortEvents.{withSeq, unsynced, sent, freshControl, freshParts, freshPort}
-use Rattle.port.specs.Sound.{SoundSetting, SoundState, SoundPort}
+use Rattle.port.specs.Sound.{SoundSetting, SoundState, NoApplications, SoundPort}
+use Rattle.tlv.specs.Revisions.{hasApplications}
 use Rattle.handling.proofs.Soundness.{port-sound, sent-sound}
 
 -- ---- one feature
@@ -49,11 +50,11 @@ module _ (sequence max : ℕ) (s : Setting) where
   made-sound f false h n k =
       record { max = h; oper = le-refl max; sequence = n; setting = k; peer = record { none = λ e. refl; some = λ e. absurd (false≢true e) }; adopts = refl; withheld = λ e. refl }
 
-  fresh-max : freshAt sequence max s .max ≡ max
+  pub fresh-max : freshAt sequence max s .max ≡ max
   unfolding freshAt
   fresh-max = made-max (s .advertise)
 
-  fresh-setting : freshAt sequence max s .setting ≡ s
+  pub fresh-setting : freshAt sequence max s .setting ≡ s
   unfolding freshAt
   fresh-setting = made-setting (s .advertise)
 
@@ -70,6 +71,7 @@ stopped-sound f x h = record { max = h .max; oper = h .oper; sequence = h .seque
 -- ---- what a fresh state takes from a port: versions, settings and flags
 
 pub record Alike (p q : Port) : Type 0 where
+  pub revision : q .revision ≡ p .revision
   pub admin : q .admin ≡ p .admin
   pub receive : q .receive ≡ p .receive
   pub transmit : q .transmit ≡ p .transmit
@@ -81,6 +83,7 @@ pub record Alike (p q : Port) : Type 0 where
 alike-trans : (p q r : Port) → Alike p q → Alike q r → Alike p r
 alike-trans p q r h k =
     record {
+      revision = k .revision ∙ h .revision;
       admin = k .admin ∙ h .admin;
       receive = k .receive ∙ h .receive;
       transmit = k .transmit ∙ h .transmit;
@@ -98,10 +101,11 @@ of-control p c Applications = refl
 
 module _ (p : Port) where
   counted-alike : (b : Bool) → Alike p (if b then withControl p (withSeq (p .control) (next (p .control .seq))) else p)
-  counted-alike false = record { admin = refl; receive = refl; transmit = refl; several = refl; control = refl; max = λ f. refl; setting = λ f. refl }
+  counted-alike false = record { revision = refl; admin = refl; receive = refl; transmit = refl; several = refl; control = refl; max = λ f. refl; setting = λ f. refl }
   counted-alike true =
       let c : Control = withSeq (p .control) (next (p .control .seq)) in
       record {
+        revision = refl;
         admin = refl;
         receive = refl;
         transmit = refl;
@@ -132,13 +136,13 @@ module _ (p : Port) where
   parts-setting Applications = fresh-setting 1 (p .applications .max) (p .applications .setting)
 
   parts-alike : Alike p (freshParts p)
-  parts-alike = record { admin = refl; receive = refl; transmit = refl; several = refl; control = refl; max = parts-max; setting = parts-setting }
+  parts-alike = record { revision = refl; admin = refl; receive = refl; transmit = refl; several = refl; control = refl; max = parts-max; setting = parts-setting }
 
   abbrev still : Port
   still = withFeatures (freshParts p) (λ f. stopped (featureOf (freshParts p) f))
 
   still-alike : Alike p still
-  still-alike = record { admin = refl; receive = refl; transmit = refl; several = refl; control = refl; max = max; setting = setting }
+  still-alike = record { revision = refl; admin = refl; receive = refl; transmit = refl; several = refl; control = refl; max = max; setting = setting }
     where
       max : (f : Feature) → featureOf still f .max ≡ featureOf p f .max
       max Groups = parts-max Groups
@@ -162,11 +166,18 @@ module _ (p : Port) where
     feature-sound : (f : Feature) → SoundState f (fresh (featureOf p f .max) (featureOf p f .setting))
     feature-sound f = fresh-sound 1 (featureOf p f .max) (featureOf p f .setting) f (h .features f .max) (lit< tt) (h .features f .setting)
 
+    fresh-none : hasApplications (p .revision) ≡ false → NoApplications (fresh (p .applications .max) (p .applications .setting))
+    fresh-none e =
+        record {
+          setting = fresh-setting 1 (p .applications .max) (p .applications .setting) ∙ h .revision e .setting;
+          max = fresh-max 1 (p .applications .max) (p .applications .setting) ∙ h .revision e .max;
+        }
+
     parts-sound : SoundPort (freshParts p)
     parts-sound =
         port-sound (freshParts p)
         (record { max = h .control .max; oper = le-refl (p .control .max); seq = lit< tt; ack = lit< tt; rcvd = lit< tt })
-        (feature-sound Groups) (feature-sound Flow) (feature-sound Applications)
+        (feature-sound Groups) (feature-sound Flow) (feature-sound Applications) fresh-none
 
     pub fresh-kept : SoundPort (freshPort p)
     unfolding freshPort
@@ -176,7 +187,7 @@ module _ (p : Port) where
         by true = sent-sound (freshParts p) parts-sound
         by false =
             port-sound still (parts-sound .control) (stopped-sound Groups _ (feature-sound Groups)) (stopped-sound Flow _ (feature-sound Flow))
-            (stopped-sound Applications _ (feature-sound Applications))
+            (stopped-sound Applications _ (feature-sound Applications)) (λ e. record { setting = fresh-none e .setting; max = fresh-none e .max })
 
 -- it depends on versions, settings and flags alone
 pub fresh-same : (p q : Port) → Alike p q → freshPort q ≡ freshPort p
@@ -187,6 +198,7 @@ fresh-same p q h =
     parts : freshParts q ≡ freshParts p
     parts =
         λ i. record {
+          revision = h .revision i;
           admin = h .admin i;
           receive = h .receive i;
           transmit = h .transmit i;

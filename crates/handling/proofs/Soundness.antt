@@ -14,6 +14,7 @@ use Rattle.octets.specs.Octets.{at, number4}
 use Rattle.octets.specs.Laws.{and-left}
 use Rattle.tlv.specs.declared.Contents.{Contents}
 use Rattle.tlv.specs.Layout.{valueOf}
+use Rattle.tlv.specs.Revisions.{hasApplications}
 use Rattle.parameters.specs.declared.Feature.{Feature}
 use Rattle.parameters.specs.declared.Feature.the-variants.{Groups, Flow, Applications}
 use Rattle.parameters.specs.Parameters.{valid, compatible, ours, stored, content}
@@ -32,7 +33,7 @@ use Rattle.port.specs.declared.Port.{Port}
 use Rattle.port.specs.Parts.{featureOf, withControl, some}
 use Rattle.port.specs.PortEvents.{withSeq, unsynced, sent, step5, completed}
 use Rattle.handling.specs.Handling.{Message, message, twice, met, exchanged, once, steps1to4}
-use Rattle.port.specs.Sound.{SoundParameters, SoundSetting, SoundPeer, adoptsBy, SoundState, SoundControl, SoundPort}
+use Rattle.port.specs.Sound.{SoundParameters, SoundSetting, SoundPeer, adoptsBy, SoundState, SoundControl, NoApplications, SoundPort}
 use Rattle.feature.specs.RulesLaws.{judgedBy, judged-by, judged-oper, judged-peer}
 
 -- ---- outcomes
@@ -165,6 +166,24 @@ module _ (f : Feature) where
       (record { max = h .max; oper = h .oper; sequence = next-small seq; setting = h .setting; peer = h .peer; adopts = h .adopts; withheld = h .withheld })
       h
 
+-- 02, E11: no frame gives a port without applications any
+either-none : (b : Bool) (x y : State) → NoApplications x → NoApplications y → NoApplications (if b then x else y)
+either-none true x y h k = h
+either-none false x y h k = k
+
+received-none : (r : Received) (rcvd seq : ℕ) (x : State) → NoApplications x → NoApplications (received Applications r (acknowledged rcvd seq x))
+unfolding received acknowledged
+received-none r rcvd seq x h =
+    either-none (x .setting .advertise) _ _ (record { setting = h .setting; max = h .max }) (record { setting = h .setting; max = h .max })
+
+twice-none : (x : State) → NoApplications x → NoApplications (controlTwice x)
+unfolding controlTwice
+twice-none x h = either-none (x .setting .advertise) _ x (record { setting = h .setting; max = h .max }) h
+
+marked-none : (seq : ℕ) (x y : State) → NoApplications y → NoApplications (marked Applications seq x y)
+unfolding marked
+marked-none seq x y h = either-none (y .setting .advertise && changed Applications x y) _ y (record { setting = h .setting; max = h .max }) h
+
 -- OperCfg of a sound state is sound
 pub configuration-sound : (f : Feature) (x : State) → SoundState f x → SoundParameters f (configuration (x .setting) (x .outcome))
 configuration-sound f x h = by (x .outcome .adopts) refl
@@ -176,8 +195,8 @@ configuration-sound f x h = by (x .outcome .adopts) refl
 -- ---- the port
 
 pub port-sound : (p : Port) → SoundControl (p .control) → SoundState Groups (p .groups) → SoundState Flow (p .flow) →
-    SoundState Applications (p .applications) → SoundPort p
-port-sound p c g w a = record { control = c; features = of }
+    SoundState Applications (p .applications) → (hasApplications (p .revision) ≡ false → NoApplications (p .applications)) → SoundPort p
+port-sound p c g w a r = record { control = c; features = of; revision = r }
   where
     of : (f : Feature) → SoundState f (featureOf p f)
     of Groups = g
@@ -188,7 +207,7 @@ counted-sound : (b : Bool) (p : Port) → SoundPort p → SoundPort (if b then w
 counted-sound true p h =
     let c = h .control in
     port-sound _ (record { max = c .max; oper = c .oper; seq = next-small (p .control .seq); ack = c .ack; rcvd = c .rcvd })
-    (h .features Groups) (h .features Flow) (h .features Applications)
+    (h .features Groups) (h .features Flow) (h .features Applications) (h .revision)
 counted-sound false p h = h
 
 pub sent-sound : (p : Port) → SoundPort p → SoundPort (sent p)
@@ -202,7 +221,8 @@ completed-sound before after h =
     (port-sound (step5 before after) (h .control)
     (marked-sound Groups (after .control .seq) (before .groups) (after .groups) (h .features Groups))
     (marked-sound Flow (after .control .seq) (before .flow) (after .flow) (h .features Flow))
-    (marked-sound Applications (after .control .seq) (before .applications) (after .applications) (h .features Applications)))
+    (marked-sound Applications (after .control .seq) (before .applications) (after .applications) (h .features Applications))
+    (λ e. marked-none (after .control .seq) (before .applications) (after .applications) (h .revision e)))
 
 module _ (p : Port) (h : SoundPort p) where
   -- two controls
@@ -214,6 +234,7 @@ module _ (p : Port) (h : SoundPort p) where
       (twice-sound Groups (p .groups) (h .features Groups))
       (twice-sound Flow (p .flow) (h .features Flow))
       (twice-sound Applications (p .applications) (h .features Applications))
+      (λ e. twice-none (p .applications) (h .revision e))
 
   -- one readable control
   module _ (m : Message) (seq : m .seq < 2 ^ 32) (ack : m .ack < 2 ^ 32) where
@@ -230,11 +251,12 @@ module _ (p : Port) (h : SoundPort p) where
         port-sound (exchanged low m p)
         (record { max = c .max; oper = min-le-left (p .control .max) (m .max); seq = c .seq; ack = seq; rcvd = ack })
         (feature-kept Groups) (feature-kept Flow) (feature-kept Applications)
+        (λ e. received-none (m .has Applications) (m .ack) (p .control .seq) (p .applications) (h .revision e))
     tested-kept false =
         let c = h .control in
         port-sound (withControl p (met low (p .control)))
         (record { max = c .max; oper = min-le-left (p .control .max) (m .max); seq = c .seq; ack = c .ack; rcvd = c .rcvd })
-        (h .features Groups) (h .features Flow) (h .features Applications)
+        (h .features Groups) (h .features Flow) (h .features Applications) (h .revision)
 
     pub once-kept : SoundPort (once m p)
     unfolding once

@@ -3,7 +3,7 @@ use Prim.Native.Nat.{ℕ, _<_}
 use native.Mathlib.Nat.{le-refl}
 use mathlib.Core.Path.{_≡_, refl, sym, ap, _∙_}
 use mathlib.Core.Bool.{Bool, true, false, not, Bool·beq, false≢true}
-use mathlib.Core.List.{List}
+use mathlib.Core.List.{List, []}
 use lib.Dec.{lit<}
 use Rattle.octets.specs.Words.{if_then_else_, _below_, _is_}
 use Rattle.octets.specs.Laws.{and-left, and-right}
@@ -13,7 +13,7 @@ use Rattle.tlv.specs.Refusals.{refusalNumber}
 use Rattle.tlv.specs.declared.Contents.{Contents}
 use Rattle.tlv.specs.declared.Reading.{Reading}
 use Rattle.tlv.specs.declared.Reading.the-variants.{Refused, Accepted}
-use Rattle.tlv.specs.Layout.{readFrame}
+use Rattle.tlv.specs.Revisions.{hasApplications, readFor}
 use Rattle.parameters.specs.declared.Feature.{Feature}
 use Rattle.parameters.specs.declared.Feature.the-variants.{Groups, Flow, Applications}
 use Rattle.parameters.specs.Parameters.{goodHalves, sum, validGroups, validFlow, allFrom, fewAndNew, validApplications, valid, ones, localValues, validLocal, oursOf, ours, stored, content}
@@ -32,12 +32,12 @@ use Rattle.port.specs.declared.Raised.{Raised}
 use Rattle.port.specs.declared.Raised.the-variants as raised
 use Rattle.port.specs.declared.Versions.{Versions}
 use Rattle.port.specs.Parts.{featureOf, maxOf, withControl, withFeatures, flagOf, withFlag, running}
-use Rattle.port.specs.PortEvents.{sent, freshControl, freshParts, freshPort, event, unchanged, refused, started, createdPort, settingsValid, restarts, flagNotice, flagSet, flagged, peerGone, step5, completed, withFeature, withSetting, settingChanged, setTo, changedFeature, changedSetting, switchedOff, blankParameters, blankState, blankPort}
+use Rattle.port.specs.PortEvents.{sent, freshControl, freshParts, freshPort, event, unchanged, refused, started, createdPort, settingsValid, restarts, flagNotice, flagSet, flagged, peerGone, step5, completed, withFeature, withSetting, settingChanged, setTo, changedFeature, changedApplications, changedSetting, switchedOff, blankParameters, blankState, blankPort}
 use Rattle.handling.specs.Handling.{Message, message, twice, met, exchanged, once, steps1to4, frameEvent, accepted, breaks, withBroken, rejected, given, handled}
 use Rattle.port.specs.Sound.{SoundSetting, SoundState, SoundPort}
 use Rattle.handling.proofs.Tests.{beq-not, each-true}
 use Rattle.handling.proofs.Soundness.{Octets, sound-stored, adopts-none, judged-sound, next-small, port-sound, sent-sound, completed-sound, steps-sound}
-use Rattle.handling.proofs.Fresh.{state-again, fresh-sound, sent-alike, runs-alike, fresh-kept, fresh-same, fresh-again}
+use Rattle.handling.proofs.Fresh.{fresh-max, fresh-setting, state-again, fresh-sound, sent-alike, runs-alike, fresh-kept, fresh-same, fresh-again}
 
 pub record Standing (p : Port) : Type 0 where
   pub sound : SoundPort p
@@ -94,7 +94,7 @@ unfolding rejected
 rejected-sound why place p h =
     let c = h .control in
     port-sound (withBroken p (breaks why)) (record { max = c .max; oper = c .oper; seq = c .seq; ack = c .ack; rcvd = c .rcvd })
-    (h .features Groups) (h .features Flow) (h .features Applications)
+    (h .features Groups) (h .features Flow) (h .features Applications) (h .revision)
 
 stopped-unmarked : (p : Port) → Standing p → running p ≡ false → rejected NotRunning 0 p .port ≡ p
 unfolding rejected breaks refusalNumber
@@ -102,7 +102,7 @@ stopped-unmarked p h r = ap (λ (b : Bool). withBroken p b) (sym (stopped-off p 
 
 pub handled-stands : (p : Port) (o : List ℕ) → Octets o → Standing p → Standing (handled p o .port)
 unfolding handled given accepted frameEvent
-handled-stands p o k h = by (running p) (p .several) (readFrame o) refl
+handled-stands p o k h = by (running p) (p .several) (readFor (p .revision) o) refl
   where
     by : (a b : Bool) (x : Reading) → running p ≡ a
         → Standing ((if not a then rejected NotRunning 0 p else if b then rejected SeveralNeighbours 0 p else given o x p) .port)
@@ -117,10 +117,10 @@ handled-stands p o k h = by (running p) (p .several) (readFrame o) refl
 
 module _ (p : Port) (on : Bool) where
   flag-sound : (flag : Flag) → SoundPort p → SoundPort (withFlag p flag on)
-  flag-sound Admin h = port-sound (withFlag p Admin on) (h .control) (h .features Groups) (h .features Flow) (h .features Applications)
-  flag-sound Receive h = port-sound (withFlag p Receive on) (h .control) (h .features Groups) (h .features Flow) (h .features Applications)
-  flag-sound Transmit h = port-sound (withFlag p Transmit on) (h .control) (h .features Groups) (h .features Flow) (h .features Applications)
-  flag-sound Several h = port-sound (withFlag p Several on) (h .control) (h .features Groups) (h .features Flow) (h .features Applications)
+  flag-sound Admin h = port-sound (withFlag p Admin on) (h .control) (h .features Groups) (h .features Flow) (h .features Applications) (h .revision)
+  flag-sound Receive h = port-sound (withFlag p Receive on) (h .control) (h .features Groups) (h .features Flow) (h .features Applications) (h .revision)
+  flag-sound Transmit h = port-sound (withFlag p Transmit on) (h .control) (h .features Groups) (h .features Flow) (h .features Applications) (h .revision)
+  flag-sound Several h = port-sound (withFlag p Several on) (h .control) (h .features Groups) (h .features Flow) (h .features Applications) (h .revision)
 
   -- where a flag does not restart the port, it runs exactly if it did
   stays : (flag : Flag) → restarts flag on p (withFlag p flag on) ≡ false → running p ≡ running (withFlag p flag on)
@@ -240,10 +240,17 @@ module _ (f : Feature) (s : Setting) (k : SoundSetting f s) (x : State) (h : Sou
       by true e = judgedAgain-sound seq (beq-not (x .setting .advertise) (s .advertise) (ap not e))
       by false e = fresh-sound (next seq) (x .max) s f (h .max) (next-small seq) k
 
-feature-kept : (p : Port) (f : Feature) (x : State) → SoundPort p → SoundState f x → SoundPort (withFeature p f x)
-feature-kept p Groups x h k = port-sound (withFeature p Groups x) (h .control) k (h .features Flow) (h .features Applications)
-feature-kept p Flow x h k = port-sound (withFeature p Flow x) (h .control) (h .features Groups) k (h .features Applications)
-feature-kept p Applications x h k = port-sound (withFeature p Applications x) (h .control) (h .features Groups) (h .features Flow) k
+-- a revision has a feature: 1.0 has no applications
+abbrev Has : Port → Feature → Type 0
+Has p Groups = Unit {0}
+Has p Flow = Unit {0}
+Has p Applications = hasApplications (p .revision) ≡ true
+
+feature-kept : (p : Port) (f : Feature) (x : State) → Has p f → SoundPort p → SoundState f x → SoundPort (withFeature p f x)
+feature-kept p Groups x a h k = port-sound (withFeature p Groups x) (h .control) k (h .features Flow) (h .features Applications) (h .revision)
+feature-kept p Flow x a h k = port-sound (withFeature p Flow x) (h .control) (h .features Groups) k (h .features Applications) (h .revision)
+feature-kept p Applications x a h k =
+    port-sound (withFeature p Applications x) (h .control) (h .features Groups) (h .features Flow) k (λ e. absurd (false≢true (sym e ∙ a)))
 
 feature-runs : (p : Port) (f : Feature) (x : State) → running (withFeature p f x) ≡ running p
 feature-runs p Groups x = refl
@@ -265,9 +272,9 @@ module _ (p : Port) (h : Standing p) where
       by Flow = without (p .flow) _ refl
       by Applications = without (p .applications) _ refl
 
-  set-stands : (f : Feature) (s : Setting) → SoundSetting f s → Standing (settingChanged f s p)
+  set-stands : (f : Feature) → Has p f → (s : Setting) → SoundSetting f s → Standing (settingChanged f s p)
   unfolding settingChanged
-  set-stands f s k = by (running p) refl
+  set-stands f a s k = by (running p) refl
     where
       by : (b : Bool) → running p ≡ b
           → Standing (if b then completed p (withFeature p f (reset f (p .control .seq) s (featureOf p f))) else freshPort (withFeature p f (withSetting (featureOf p f) s)))
@@ -275,22 +282,30 @@ module _ (p : Port) (h : Standing p) where
           let x : State = reset f (p .control .seq) s (featureOf p f) in
           let q : Port = withFeature p f x in
           running-stands (completed p q)
-          (completed-sound p q (feature-kept p f x (h .sound) (reset-sound f s k (featureOf p f) (h .sound .features f) (p .control .seq))))
+          (completed-sound p q (feature-kept p f x a (h .sound) (reset-sound f s k (featureOf p f) (h .sound .features f) (p .control .seq))))
           (completed-runs p q ∙ feature-runs p f x ∙ r)
       by false r =
           let x : State = withSetting (featureOf p f) s in
           fresh-stands (withFeature p f x)
-          (feature-kept p f x (h .sound) (with-setting-sound f s k (featureOf p f) (h .sound .features f) (none-held f r)))
+          (feature-kept p f x a (h .sound) (with-setting-sound f s k (featureOf p f) (h .sound .features f) (none-held f r)))
 
-  changed-stands : (f : Feature) (w : Switches) (o : List ℕ) → Standing (changedFeature f w o p .port)
+  changed-stands : (f : Feature) → Has p f → (w : Switches) (o : List ℕ) → Standing (changedFeature f w o p .port)
   unfolding changedFeature setTo
-  changed-stands f w o = by (validLocal f o) (sameSetting (featureOf p f .setting) (settingOf f w o)) refl
+  changed-stands f has w o = by (validLocal f o) (sameSetting (featureOf p f .setting) (settingOf f w o)) refl
     where
       by : (a b : Bool) → validLocal f o ≡ a
           → Standing ((if a then if b then unchanged p else event raised.Nothing p (settingChanged f (settingOf f w o) p) else refused InvalidSetting p) .port)
       by false b v = h
       by true true v = h
-      by true false v = set-stands f (settingOf f w o) (setting-sound f w o v)
+      by true false v = set-stands f has (settingOf f w o) (setting-sound f w o v)
+
+  applications-stand : (w : Switches) (o : List ℕ) → Standing (changedApplications w o p .port)
+  unfolding changedApplications
+  applications-stand w o = by (hasApplications (p .revision)) refl
+    where
+      by : (b : Bool) → hasApplications (p .revision) ≡ b → Standing ((if b then changedFeature Applications w o p else refused UnknownFeature p) .port)
+      by true e = changed-stands Applications e w o
+      by false e = h
 
   pub setting-stands : (number : ℕ) (w : Switches) (o : List ℕ) → Standing (changedSetting number w o p .port)
   unfolding changedSetting
@@ -300,11 +315,11 @@ module _ (p : Port) (h : Standing p) where
           → Standing
           ((if a then changedFeature Groups w o p
           else if b then changedFeature Flow w o p
-          else if c then changedFeature Applications w o p
+          else if c then changedApplications w o p
           else refused UnknownFeature p) .port)
-      by true b c = changed-stands Groups w o
-      by false true c = changed-stands Flow w o
-      by false false true = changed-stands Applications w o
+      by true b c = changed-stands Groups tt w o
+      by false true c = changed-stands Flow tt w o
+      by false false true = applications-stand w o
       by false false false = h
 
 -- ---- creation
@@ -317,6 +332,7 @@ module _ (v : Versions) (w : Feature → Switches) (o : Feature → List ℕ) wh
   abbrev unsent : Port
   unsent =
       record {
+        revision = v .revision;
         admin = true;
         receive = true;
         transmit = true;
@@ -342,6 +358,7 @@ module _ (v : Versions) (w : Feature → Switches) (o : Feature → List ℕ) wh
       fresh-same unsent (createdPort v w o) (sent-alike unsent)
       ∙ ap sent
       (λ i. record {
+        revision = v .revision;
         admin = true;
         receive = true;
         transmit = true;
@@ -352,7 +369,8 @@ module _ (v : Versions) (w : Feature → Switches) (o : Feature → List ℕ) wh
         applications = state-again (v .applications) (settingOf Applications (w Applications) (o Applications)) i;
       })
 
-  module _ (control : v .control < 256) (features : (f : Feature) → maxOf v f < 256) (good : settingsValid o ≡ true) where
+  module _ (control : v .control < 256) (features : (f : Feature) → maxOf v f < 256) (good : settingsValid o ≡ true)
+      (without : hasApplications (v .revision) ≡ false → (w Applications ≡ switchedOff) × (o Applications ≡ []) × (v .applications ≡ 0)) where
     valid-at : (f : Feature) → validLocal f (o f) ≡ true
     unfolding settingsValid
     valid-at f = each-true (λ f. validLocal f (o f)) good f
@@ -363,6 +381,10 @@ module _ (v : Versions) (w : Feature → Switches) (o : Feature → List ℕ) wh
         (bare-sound Groups (features Groups) (valid-at Groups))
         (bare-sound Flow (features Flow) (valid-at Flow))
         (bare-sound Applications (features Applications) (valid-at Applications))
+        (λ e. record {
+          setting = fresh-setting 1 (v .applications) (settingOf Applications (w Applications) (o Applications)) ∙ (λ i. settingOf Applications (without e .0 i) (without e .1 i));
+          max = fresh-max 1 (v .applications) (settingOf Applications (w Applications) (o Applications)) ∙ without e .2;
+        })
 
     pub created-stands : Standing (createdPort v w o)
     unfolding started
@@ -376,14 +398,19 @@ blank-valid Groups = refl
 blank-valid Flow = refl
 blank-valid Applications = refl
 
+-- an empty list of applications is valid
+pub none-valid : validLocal Applications [] ≡ true
+unfolding blankParameters
+none-valid = blank-valid Applications
+
 blank-state-sound : (f : Feature) → SoundState f (blankState f)
 blank-state-sound f = fresh-sound 1 0 (settingOf f switchedOff (blankParameters f)) f (lit< tt) (lit< tt) (setting-sound f switchedOff (blankParameters f) (blank-valid f))
 
 pub blank-stands : Standing blankPort
-unfolding blankPort freshPort freshAt
+unfolding blankPort freshPort freshAt hasApplications
 blank-stands =
     record {
       sound = port-sound blankPort (record { max = lit< tt; oper = le-refl 0; seq = lit< tt; ack = lit< tt; rcvd = lit< tt })
-          (blank-state-sound Groups) (blank-state-sound Flow) (blank-state-sound Applications);
+          (blank-state-sound Groups) (blank-state-sound Flow) (blank-state-sound Applications) (λ e. absurd (false≢true (sym e)));
       stopped = λ e. refl;
     }

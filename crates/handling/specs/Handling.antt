@@ -10,7 +10,8 @@ use Rattle.tlv.specs.Refusals.{refusalNumber}
 use Rattle.tlv.specs.declared.Contents.{Contents}
 use Rattle.tlv.specs.declared.Reading.{Reading}
 use Rattle.tlv.specs.declared.Reading.the-variants.{Refused, Accepted}
-use Rattle.tlv.specs.Layout.{readFrame, valueOf}
+use Rattle.tlv.specs.Layout.{valueOf}
+use Rattle.tlv.specs.Revisions.{readFor}
 use Rattle.parameters.specs.declared.Feature.{Feature}
 use Rattle.parameters.specs.declared.Feature.the-variants.{Groups, Flow, Applications}
 use Rattle.feature.specs.declared.State.{State}
@@ -119,9 +120,9 @@ unfoldable pub given : List ℕ → Reading → Port → Event
 given o (Refused why place) p = rejected why place p
 given o (Accepted c) p = accepted o c p
 
--- "1: the port isn't running: a frame, ..", "2: a frame while several neighbours are flagged", then 3 to 8
+-- "1: the port isn't running: a frame, ..", "2: a frame while several neighbours are flagged", then 3 to 8; 02, E11: the reader is told the revision
 unfoldable pub handled : Port → List ℕ → Event
 handled p o =
     if not (running p) then rejected refusal.NotRunning 0 p
     else if p .several then rejected refusal.SeveralNeighbours 0 p
-    else given o (readFrame o) p
+    else given o (readFor (p .revision) o) p

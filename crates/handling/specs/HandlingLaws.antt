@@ -17,8 +17,9 @@ use Rattle.tlv.specs.declared.Refusal.the-variants.{NotRunning, SeveralNeighbou
 use Rattle.tlv.specs.declared.Reading.{Reading}
 use Rattle.tlv.specs.declared.Reading.the-variants.{Refused, Accepted}
 use Rattle.tlv.specs.Refusals.{refusalNumber}
-use Rattle.tlv.specs.Promises.{Inside, ReadPromise}
-use Rattle.tlv.specs.Layout.{readFrame, valueOf}
+use Rattle.tlv.specs.Revisions.{readFor}
+use Rattle.tlv.specs.Promises.{Inside, ReadsFor}
+use Rattle.tlv.specs.Layout.{valueOf}
 use Rattle.parameters.specs.declared.Feature.{Feature}
 use Rattle.parameters.specs.declared.Feature.the-variants.{Groups, Flow, Applications}
 use Rattle.parameters.specs.declared.Parameters.{Parameters}
@@ -56,7 +57,7 @@ unfoldable pub admitted : Port → List ℕ → Reading
 admitted p o =
     if not (running p) then Refused NotRunning 0
     else if p .several then Refused SeveralNeighbours 0
-    else readFrame o
+    else readFor (p .revision) o
 
 -- a frame that is taken lies inside the octets, and the port runs
 pub record Admits (p : Port) (o : List ℕ) (r : Reading) : Type 0 where
@@ -82,7 +83,7 @@ module _ (p : Port) (o : List ℕ) {b : Bool} (e : b ≡ running p) where
     unfolding admitted
     admit-several u = refused-admits (rw (← e, t, u) refl)
 
-    pub admit-read : {r : Reading} → p .several ≡ false → ReadPromise o r → Admits p o r
+    pub admit-read : {r : Reading} → p .several ≡ false → ReadsFor (p .revision) o r → Admits p o r
     unfolding admitted
     admit-read u h = record { answers = h .is ∙ rw (← e, t, u) refl; inside = h .inside; runs = λ c q. sym e ∙ not-false b t }
 
@@ -90,8 +91,8 @@ pub handled-admitted : (p : Port) (o : List ℕ) → handled p o ≡ given o (ad
 unfolding handled given admitted
 handled-admitted p o = by (running p) (p .several)
   where
-    by : (a b : Bool) → (if not a then rejected NotRunning 0 p else if b then rejected SeveralNeighbours 0 p else given o (readFrame o) p)
-        ≡ given o (if not a then Refused NotRunning 0 else if b then Refused SeveralNeighbours 0 else readFrame o) p
+    by : (a b : Bool) → (if not a then rejected NotRunning 0 p else if b then rejected SeveralNeighbours 0 p else given o (readFor (p .revision) o) p)
+        ≡ given o (if not a then Refused NotRunning 0 else if b then Refused SeveralNeighbours 0 else readFor (p .revision) o) p
     by false b = refl
     by true true = refl
     by true false = refl

@@ -50,7 +50,8 @@ pub fn admit(p: Port, s: &[u8]) -> Reading
     if p.several {
         return Reading::Refused(Refusal::SeveralNeighbours, 0);
     }
-    tlv::read(s)
+    let revision = p.revision;
+    tlv::read_for(revision, s)
 }
 
 // A sub-TLV's value, as a part of the frame.

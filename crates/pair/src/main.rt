@@ -8,6 +8,7 @@ use notices::Log;
 use parameters::Feature;
 use parameters::Parameters;
 use port::Port;
+use tlv::Revision;
 
 // Five rounds are always enough (01, Rounds of two ends).
 const ROUNDS: u64 = 5;
@@ -125,6 +126,18 @@ fn outcome(f: Feature, x: State, y: State) -> Told {
     }
 }
 
+// Of applications there is nothing to tell between two ends of Rev 1.0.
+fn on_applications(r: Revision, q: Revision, x: State, y: State) -> Told {
+    if tlv::has_applications(r) | tlv::has_applications(q) {
+        return outcome(Feature::Applications, x, y);
+    }
+    Told {
+        open: 0,
+        silent: 0,
+        fit: 0,
+    }
+}
+
 // The first words: 0 agreed, 1 not agreed, 2 not exchanged.
 fn verdict(open: bool, silent: bool) -> u64 {
     if open {
@@ -168,25 +181,36 @@ fn first_line(out: &mut [u8], rounds: u64, g: Told, w: Told, a: Told) -> usize {
 
 // The first line on two ends.
 fn compare(out: &mut [u8], rounds: u64, a: Port, b: Port) -> usize {
+    let of_a = a.revision;
+    let of_b = b.revision;
     let groups = outcome(Feature::Groups, a.groups, b.groups);
     let flow = outcome(Feature::Flow, a.flow, b.flow);
-    let applications = outcome(Feature::Applications, a.applications, b.applications);
+    let applications = on_applications(of_a, of_b, a.applications, b.applications);
     first_line(out, rounds, groups, flow, applications)
 }
 
-fn control_line(out: &mut [u8], at: usize, name: &[u8], version: u8) -> usize {
-    let numbers = [version as u64];
+fn control_line(out: &mut [u8], at: usize, name: &[u8], version: u8, r: Revision) -> usize {
+    let numbers = [version as u64, report::states::named(r)];
     let a = report::text(out, at, name);
-    report::forms::put(out, a, b"control version #\n", &numbers)
+    report::forms::put(out, a, b"control version #[| revision 1.0]\n", &numbers)
+}
+
+// The line on applications, which an end of Rev 1.0 does not have.
+fn application_line(out: &mut [u8], at: usize, name: &[u8], r: Revision, x: State) -> usize {
+    if !tlv::has_applications(r) {
+        return at;
+    }
+    report::states::feature_line(out, at, name, Feature::Applications, x)
 }
 
 // What an end has come to; each line begins with its name.
 fn end_lines(out: &mut [u8], at: usize, name: &[u8], p: Port, l: Log) -> usize {
     let k = p.control;
-    let a = control_line(out, at, name, k.oper);
+    let revision = p.revision;
+    let a = control_line(out, at, name, k.oper, revision);
     let b = report::states::feature_line(out, a, name, Feature::Groups, p.groups);
     let d = report::states::feature_line(out, b, name, Feature::Flow, p.flow);
-    let e = report::states::feature_line(out, d, name, Feature::Applications, p.applications);
+    let e = application_line(out, d, name, revision, p.applications);
     report::states::notice_lines(out, e, name, l, PORT)
 }
 

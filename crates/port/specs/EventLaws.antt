@@ -9,6 +9,8 @@ use borrow.Author.Tests.{not-true, not-false, eq-eqb, ne-eqb}
 use Rattle.octets.specs.Words.{if_then_else_, _is_}
 use Rattle.tlv.specs.declared.Refusal.the-variants.{NotRunning, InvalidSetting, UnknownFeature}
 use Rattle.parameters.specs.Parameters.{validLocal}
+use Rattle.tlv.specs.declared.Revision.the-variants.{Rev101}
+use Rattle.tlv.specs.Revisions.{hasApplications}
 use Rattle.parameters.specs.declared.Feature.{Feature}
 use Rattle.parameters.specs.declared.Feature.the-variants.{Groups, Flow, Applications}
 use Rattle.feature.specs.declared.Reason.{Reason}
@@ -34,7 +36,7 @@ use Rattle.port.specs.Writing.{asks}
 use Rattle.port.specs.Parts.{featureOf, three, withControl, withFeatures, some, withFlag, flagOf, running}
 use Rattle.port.specs.Replies.{raisedNumber}
 use Rattle.port.specs.Settled.{settled}
-use Rattle.port.specs.PortEvents.{unsynced, sent, withSeq, freshControl, freshParts, freshPort, completed, noticed, becomes, raises, restarts, flagSet, withFeature, withSetting, settingChanged, switchedOff, blankParameters, blankPort, started, silent, event, unchanged, refused, flagNotice, flagged, peerGone, setTo, changedFeature, changedSetting, made, created, settingsValid}
+use Rattle.port.specs.PortEvents.{unsynced, sent, withSeq, freshControl, freshParts, freshPort, completed, noticed, becomes, raises, restarts, flagSet, withFeature, withSetting, settingChanged, switchedOff, blankParameters, blankPort, started, silent, event, unchanged, refused, flagNotice, flagged, peerGone, setTo, changedFeature, changedApplications, changedSetting, made, createdWith, created, settingsValid}
 
 -- ---- the send rule
 
@@ -179,7 +181,7 @@ module _ (f : Feature) (s : Setting) (p : Port) {x y : State} {q r : Port} {b : 
 
 pub start-is : (v : Versions) (g w a : Setting) {x y z : State} {c : Control} {p : Port} → x ≡ freshAt 1 (v .groups) g → y ≡ freshAt 1 (v .flow) w
     → z ≡ freshAt 1 (v .applications) a → c ≡ freshControl (v .control)
-    → p ≡ sent (record { admin = true; receive = true; transmit = true; several = false; control = c; groups = x; flow = y; applications = z })
+    → p ≡ sent (record { revision = v .revision; admin = true; receive = true; transmit = true; several = false; control = c; groups = x; flow = y; applications = z })
     → p ≡ started v g w a
 unfolding started
 start-is v g w a ex ey ez ec ep = ep ∙ rw (ex, ey, ez, ec) refl
@@ -189,7 +191,7 @@ blank-state f o es ex = ex ∙ rw es refl
 
 pub blank-is : {c : Control} {g w a : State} {o : List ℕ} → c ≡ freshControl 0 → g ≡ fresh 0 (settingOf Groups switchedOff (0 ∷ 0 ∷ 0 ∷ 0 ∷ 100 ∷ 0 ∷ 0 ∷ 0 ∷ 0 ∷ 0 ∷ 0 ∷ 0 ∷ 0 ∷ []))
     → w ≡ fresh 0 (settingOf Flow switchedOff (replicate 2 0)) → o ≡ [] → a ≡ fresh 0 (settingOf Applications switchedOff o)
-    → record { admin = false; receive = false; transmit = false; several = false; control = c; groups = g; flow = w; applications = a } ≡ blankPort
+    → record { revision = Rev101; admin = false; receive = false; transmit = false; several = false; control = c; groups = g; flow = w; applications = a } ≡ blankPort
 unfolding blankPort blankParameters
 blank-is ec eg ew eo ea = rw (ec, eg, ew, ea, eo) refl
 
@@ -254,13 +256,22 @@ module _ (n : ℕ) (w : Switches) (o : List ℕ) (p : Port) {e : Event} where
     change-flow t er = er ∙ rw (ne-eqb n 2 n2, eq-eqb n 3 t) refl
 
     module _ (n3 : n ≡ 3 → ⊥) where
-      pub change-applications : n ≡ 4 → e ≡ changedFeature Applications w o p → e ≡ changedSetting n w o p
+      pub change-fourth : n ≡ 4 → e ≡ changedApplications w o p → e ≡ changedSetting n w o p
       unfolding changedSetting
-      change-applications t er = er ∙ rw (ne-eqb n 2 n2, ne-eqb n 3 n3, eq-eqb n 4 t) refl
+      change-fourth t er = er ∙ rw (ne-eqb n 2 n2, ne-eqb n 3 n3, eq-eqb n 4 t) refl
 
       pub change-unknown : (n ≡ 4 → ⊥) → e ≡ refused UnknownFeature p → e ≡ changedSetting n w o p
       unfolding changedSetting
       change-unknown n4 er = er ∙ rw (ne-eqb n 2 n2, ne-eqb n 3 n3, ne-eqb n 4 n4) refl
+
+module _ (w : Switches) (o : List ℕ) (p : Port) {b : Bool} (eb : b ≡ hasApplications (p .revision)) {e : Event} where
+  pub change-no-applications : not b ≡ true → e ≡ refused UnknownFeature p → e ≡ changedApplications w o p
+  unfolding changedApplications
+  change-no-applications t er = er ∙ rw (← eb, not-true b t) refl
+
+  pub change-applications : not b ≡ false → e ≡ changedFeature Applications w o p → e ≡ changedApplications w o p
+  unfolding changedApplications
+  change-applications t er = er ∙ rw (← eb, not-false b t) refl
 
 -- ---- creation
 
@@ -269,21 +280,33 @@ pub made-is : (before : Port) (v : Versions) (g w a : Setting) {p : Port} {b : B
 made-is before v g w a ep eb en = rw (eb, ep, en) refl
 
 module _ (p : Port) (v : Versions) (g w a : Switches) (gp wp ap : List ℕ) {e : Event} {b : Bool} (eb : b ≡ validLocal Groups gp) where
-  pub created-groups : not b ≡ true → e ≡ refused InvalidSetting p → e ≡ created v (three g w a) (three gp wp ap) p
-  unfolding created settingsValid
+  pub created-groups : not b ≡ true → e ≡ refused InvalidSetting p → e ≡ createdWith v (three g w a) (three gp wp ap) p
+  unfolding createdWith settingsValid
   created-groups t er = er ∙ rw (← eb, not-true b t) refl
 
   module _ (t : not b ≡ false) {c : Bool} (ec : c ≡ validLocal Flow wp) where
-    pub created-flow : not c ≡ true → e ≡ refused InvalidSetting p → e ≡ created v (three g w a) (three gp wp ap) p
-    unfolding created settingsValid
+    pub created-flow : not c ≡ true → e ≡ refused InvalidSetting p → e ≡ createdWith v (three g w a) (three gp wp ap) p
+    unfolding createdWith settingsValid
     created-flow u er = er ∙ rw (← eb, not-false b t, ← ec, not-true c u) refl
 
     module _ (u : not c ≡ false) {d : Bool} (ed : d ≡ validLocal Applications ap) where
-      pub created-applications : not d ≡ true → e ≡ refused InvalidSetting p → e ≡ created v (three g w a) (three gp wp ap) p
-      unfolding created settingsValid
+      pub created-applications : not d ≡ true → e ≡ refused InvalidSetting p → e ≡ createdWith v (three g w a) (three gp wp ap) p
+      unfolding createdWith settingsValid
       created-applications x er = er ∙ rw (← eb, not-false b t, ← ec, not-false c u, ← ed, not-true d x) refl
 
       pub created-made : {x y z : Setting} → not d ≡ false → x ≡ settingOf Groups g gp → y ≡ settingOf Flow w wp → z ≡ settingOf Applications a ap
-          → e ≡ made p (started v x y z) → e ≡ created v (three g w a) (three gp wp ap) p
-      unfolding created settingsValid
+          → e ≡ made p (started v x y z) → e ≡ createdWith v (three g w a) (three gp wp ap) p
+      unfolding createdWith settingsValid
       created-made k ex ey ez er = er ∙ rw (ex, ey, ez, ← eb, not-false b t, ← ec, not-false c u, ← ed, not-false d k) refl
+
+-- 02, E11: what a revision takes of what is given
+module _ (p : Port) (v : Versions) (g w a : Switches) (gp wp ap : List ℕ) {b : Bool} (eb : b ≡ hasApplications (v .revision)) {e : Event} where
+  pub created-101 : b ≡ true → e ≡ createdWith v (three g w a) (three gp wp ap) p → e ≡ created v (three g w a) (three gp wp ap) p
+  unfolding created
+  created-101 t er = er ∙ rw (← eb, t) refl
+
+  pub created-10 : {o : List ℕ} → b ≡ false → o ≡ []
+      → e ≡ createdWith (record { revision = v .revision; control = v .control; groups = v .groups; flow = v .flow; applications = 0 }) (three g w switchedOff) (three gp wp o) p
+      → e ≡ created v (three g w a) (three gp wp ap) p
+  unfolding created
+  created-10 t eo er = er ∙ rw (← eb, t, eo) refl

@@ -29,6 +29,7 @@ three g w a Applications = a
 abbrev pub withControl : Port → Control → Port
 withControl p c =
     record {
+      revision = p .revision;
       admin = p .admin;
       receive = p .receive;
       transmit = p .transmit;
@@ -42,6 +43,7 @@ withControl p c =
 abbrev pub withFeatures : Port → (Feature → State) → Port
 withFeatures p x =
     record {
+      revision = p .revision;
       admin = p .admin;
       receive = p .receive;
       transmit = p .transmit;
@@ -67,10 +69,10 @@ flagOf p Transmit = p .transmit
 flagOf p Several = p .several
 
 abbrev pub withFlag : Port → Flag → Bool → Port
-withFlag p Admin b = record { admin = b; receive = p .receive; transmit = p .transmit; several = p .several; control = p .control; groups = p .groups; flow = p .flow; applications = p .applications }
-withFlag p Receive b = record { admin = p .admin; receive = b; transmit = p .transmit; several = p .several; control = p .control; groups = p .groups; flow = p .flow; applications = p .applications }
-withFlag p Transmit b = record { admin = p .admin; receive = p .receive; transmit = b; several = p .several; control = p .control; groups = p .groups; flow = p .flow; applications = p .applications }
-withFlag p Several b = record { admin = p .admin; receive = p .receive; transmit = p .transmit; several = b; control = p .control; groups = p .groups; flow = p .flow; applications = p .applications }
+withFlag p Admin b = record { revision = p .revision; admin = b; receive = p .receive; transmit = p .transmit; several = p .several; control = p .control; groups = p .groups; flow = p .flow; applications = p .applications }
+withFlag p Receive b = record { revision = p .revision; admin = p .admin; receive = b; transmit = p .transmit; several = p .several; control = p .control; groups = p .groups; flow = p .flow; applications = p .applications }
+withFlag p Transmit b = record { revision = p .revision; admin = p .admin; receive = p .receive; transmit = b; several = p .several; control = p .control; groups = p .groups; flow = p .flow; applications = p .applications }
+withFlag p Several b = record { revision = p .revision; admin = p .admin; receive = p .receive; transmit = p .transmit; several = b; control = p .control; groups = p .groups; flow = p .flow; applications = p .applications }
 
 -- 01, Port events: "Running means administratively enabled, LLDP receive on and transmit on"
 abbrev pub running : Port → Bool

@@ -5,6 +5,9 @@ use mathlib.Core.List.{List, [], _∷_, _++_}
 use Rattle.octets.specs.Words.{if_then_else_, _is_}
 use Rattle.tlv.specs.declared.Refusal.{Refusal}
 use Rattle.tlv.specs.declared.Refusal.the-variants.{NotRunning, InvalidSetting, UnknownFeature}
+use Rattle.tlv.specs.declared.Revision.{Revision}
+use Rattle.tlv.specs.declared.Revision.the-variants.{Rev101}
+use Rattle.tlv.specs.Revisions.{hasApplications}
 use Rattle.parameters.specs.declared.Feature.{Feature}
 use Rattle.parameters.specs.declared.Feature.the-variants.{Groups, Flow, Applications}
 use Rattle.feature.specs.declared.Reason.{Reason}
@@ -125,6 +128,7 @@ unfoldable pub started : Versions → Setting → Setting → Setting → Port
 started v g w a =
     sent
     (record {
+      revision = v .revision;
       admin = true;
       receive = true;
       transmit = true;
@@ -154,6 +158,7 @@ blankState f = fresh 0 (settingOf f switchedOff (blankParameters f))
 unfoldable pub blankPort : Port
 blankPort =
     record {
+      revision = Rev101;
       admin = false;
       receive = false;
       transmit = false;
@@ -172,8 +177,29 @@ abbrev pub made : Port → Port → Event
 made before p = record { answer = Done (asks before p); port = p; notices = silent }
 
 -- "creation with an invalid setting gives 9 and makes no port": what stood in its place stays
+unfoldable pub createdWith : Versions → (Feature → Switches) → (Feature → List ℕ) → Port → Event
+createdWith v w o p = if settingsValid o then made p (createdPort v w o) else refused InvalidSetting p
+
+-- 02, E11: "A port is created for either revision; for 1.0 creation takes no setting for type 4, which is held unadvertised, not enabled and
+-- empty", and its highest version is 0
+abbrev pub versionsFor : Versions → Versions
+versionsFor v =
+    record {
+      revision = v .revision;
+      control = v .control;
+      groups = v .groups;
+      flow = v .flow;
+      applications = if hasApplications (v .revision) then v .applications else 0;
+    }
+
+abbrev pub switchesFor : Revision → (Feature → Switches) → Feature → Switches
+switchesFor r w = three (w Groups) (w Flow) (if hasApplications r then w Applications else switchedOff)
+
+abbrev pub parametersFor : Revision → (Feature → List ℕ) → Feature → List ℕ
+parametersFor r o = three (o Groups) (o Flow) (if hasApplications r then o Applications else [])
+
 unfoldable pub created : Versions → (Feature → Switches) → (Feature → List ℕ) → Port → Event
-created v w o p = if settingsValid o then made p (createdPort v w o) else refused InvalidSetting p
+created v w o p = createdWith (versionsFor v) (switchesFor (v .revision) w) (parametersFor (v .revision) o) p
 
 -- "Start and stop of running, .. and the several-neighbours flag going on, each go to the fresh state of the present settings.
 -- Clearing that flag changes only the flag."
@@ -242,10 +268,14 @@ changedFeature f w o p =
     if validLocal f o then setTo f (settingOf f w o) p
     else refused InvalidSetting p
 
+-- 02, E11: under 1.0 "a setting for it is refused with 11"
+unfoldable pub changedApplications : Switches → List ℕ → Port → Event
+changedApplications w o p = if hasApplications (p .revision) then changedFeature Applications w o p else refused UnknownFeature p
+
 -- "11: feature number not 2, 3 or 4", "except 11 before 9"
 unfoldable pub changedSetting : ℕ → Switches → List ℕ → Port → Event
 changedSetting number w o p =
     if number is 2 then changedFeature Groups w o p
     else if number is 3 then changedFeature Flow w o p
-    else if number is 4 then changedFeature Applications w o p
+    else if number is 4 then changedApplications w o p
     else refused UnknownFeature p

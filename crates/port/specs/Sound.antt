@@ -3,16 +3,21 @@
 use Prim.Native.Nat.{_<_, _≤_, _^_}
 use mathlib.Core.Path.{_≡_}
 use mathlib.Core.Bool.{Bool, true, false, not, _&&_}
+use mathlib.Core.List.{[]}
+use Rattle.tlv.specs.Revisions.{hasApplications}
 use Rattle.parameters.specs.declared.Feature.{Feature}
+use Rattle.parameters.specs.declared.Feature.the-variants.{Applications}
 use Rattle.parameters.specs.declared.Parameters.{Parameters}
 use Rattle.parameters.specs.Parameters as parameters
 use Rattle.feature.specs.declared.Setting.{Setting}
 use Rattle.feature.specs.declared.Peer.{Peer}
 use Rattle.feature.specs.declared.State.{State}
 use Rattle.feature.specs.Outcome.{noPeer}
+use Rattle.feature.specs.State.{settingOf}
 use Rattle.port.specs.declared.Control.{Control}
 use Rattle.port.specs.declared.Port.{Port}
 use Rattle.port.specs.Parts.{featureOf}
+use Rattle.port.specs.PortEvents.{switchedOff}
 
 -- valid parameters as a state holds them: 96 places, zero past the length, and no application entry but our own
 pub record SoundParameters (f : Feature) (p : Parameters) : Type 0 where
@@ -51,6 +56,12 @@ pub record SoundControl (c : Control) : Type 0 where
   pub ack : c .ack < 2 ^ 32
   pub rcvd : c .rcvd < 2 ^ 32
 
+-- 02, E11: "for 1.0 creation takes no setting for type 4, which is held unadvertised, not enabled and empty"
+pub record NoApplications (x : State) : Type 0 where
+  pub setting : x .setting ≡ settingOf Applications switchedOff []
+  pub max : x .max ≡ 0
+
 pub record SoundPort (p : Port) : Type 0 where
   pub control : SoundControl (p .control)
   pub features : (f : Feature) → SoundState f (featureOf p f)
+  pub revision : hasApplications (p .revision) ≡ false → NoApplications (p .applications)

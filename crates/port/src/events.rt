@@ -7,7 +7,7 @@ ghost use Rattle.octets.specs.Words.{_is_};
 ghost use Rattle.port.specs.EventLaws.{counted};
 ghost use Rattle.port.specs.Replies.{raisedNumber};
 ghost use Rattle.port.specs.Settled.{settled};
-ghost use Rattle.port.specs.PortEvents.{unsynced, sent, freshControl, freshParts, freshPort, completed, noticed, becomes, raises, silent, refusedAt, unchanged, flagNotice, restarts, flagSet, withFeature, withSetting, settingChanged, switchedOff, blankPort, started, event, flagged, peerGone, setTo, changedFeature, changedSetting, made, created};
+ghost use Rattle.port.specs.PortEvents.{unsynced, sent, freshControl, freshParts, freshPort, completed, noticed, becomes, raises, silent, refusedAt, unchanged, flagNotice, restarts, flagSet, withFeature, withSetting, settingChanged, switchedOff, blankPort, started, event, flagged, peerGone, setTo, changedFeature, changedApplications, changedSetting, made, createdWith, created};
 use crate::Answer;
 use crate::Control;
 use crate::Event;
@@ -24,6 +24,7 @@ use notices::Kind;
 use parameters::Feature;
 use parameters::Parameters;
 use tlv::Refusal;
+use tlv::Revision;
 
 // Whether the feature is advertised and waits for an acknowledgement.
 fn unsynced(x: State) -> bool
@@ -421,6 +422,7 @@ pub fn blank() -> Port
     let w = blank_state(Feature::Flow, &no_flow);
     let a = blank_state(Feature::Applications, octets::first(&no_flow, 0));
     Port {
+        revision: Revision::Rev101,
         admin: false,
         receive: false,
         transmit: false,
@@ -440,7 +442,9 @@ fn start(v: Versions, g: Setting, w: Setting, a: Setting) -> Port
     let y = feature::steps::fresh_at(1, v.flow, w);
     let z = feature::steps::fresh_at(1, v.applications, a);
     let c = fresh_control(v.control);
+    let revision = v.revision;
     send(Port {
+        revision: revision,
         admin: true,
         receive: true,
         transmit: true,
@@ -509,6 +513,17 @@ fn change_feature(p: Port, f: Feature, w: Switches, o: &[u8]) -> Event
     set_to(p, f, feature::steps::setting_of(f, w, o))
 }
 
+// Applications, where the port's revision has them (02, E11).
+fn change_applications(p: Port, w: Switches, o: &[u8]) -> Event
+    ensures { λ r. ⌜ r ≡ changedApplications w (now (o .entry)) p ⌝ }
+{
+    let revision = p.revision;
+    if !tlv::has_applications(revision) {
+        return refuse(Refusal::UnknownFeature, 0, p);
+    }
+    change_feature(p, Feature::Applications, w, o)
+}
+
 // Changes the setting of the feature with a number; its parameters are given as octets (01, Handling a frame).
 pub fn change_setting(p: Port, number: u8, w: Switches, o: &[u8]) -> Event
     ensures { λ r. ⌜ r ≡ changedSetting number w (now (o .entry)) p ⌝ }
@@ -520,7 +535,7 @@ pub fn change_setting(p: Port, number: u8, w: Switches, o: &[u8]) -> Event
         return change_feature(p, Feature::Flow, w, o);
     }
     if number == 4 {
-        return change_feature(p, Feature::Applications, w, o);
+        return change_applications(p, w, o);
     }
     refuse(Refusal::UnknownFeature, 0, p)
 }
@@ -539,9 +554,8 @@ fn make(p: Port, v: Versions, g: Setting, w: Setting, a: Setting) -> Event
     }
 }
 
-// Creates a port in the place of another: the switches and the parameters, as octets, of priority groups, flow control and
-// applications. An invalid setting is refused, and leaves the other (01, Refusal numbers).
-pub fn create(
+// The port of settings for all three features, or the refusal of an invalid one.
+fn create_with(
     p: Port,
     v: Versions,
     g: Switches,
@@ -551,7 +565,7 @@ pub fn create(
     a: Switches,
     ap: &[u8],
 ) -> Event
-    ensures { λ r. ⌜ r ≡ created v (three g w a) (three (now (gp .entry)) (now (wp .entry)) (now (ap .entry))) p ⌝ }
+    ensures { λ r. ⌜ r ≡ createdWith v (three g w a) (three (now (gp .entry)) (now (wp .entry)) (now (ap .entry))) p ⌝ }
 {
     if !parameters::valid_local(Feature::Groups, gp) {
         return refuse(Refusal::InvalidSetting, 0, p);
@@ -566,4 +580,33 @@ pub fn create(
     let y = feature::steps::setting_of(Feature::Flow, w, wp);
     let z = feature::steps::setting_of(Feature::Applications, a, ap);
     make(p, v, x, y, z)
+}
+
+// Creates a port in the place of another: the switches and the parameters, as octets, of priority groups, flow control and
+// applications. An invalid setting is refused, and leaves the other (01, Refusal numbers). Under Rev 1.0
+// nothing is taken for applications: what is given for them is not looked at.
+pub fn create(
+    p: Port,
+    v: Versions,
+    g: Switches,
+    gp: &[u8],
+    w: Switches,
+    wp: &[u8],
+    a: Switches,
+    ap: &[u8],
+) -> Event
+    ensures { λ r. ⌜ r ≡ created v (three g w a) (three (now (gp .entry)) (now (wp .entry)) (now (ap .entry))) p ⌝ }
+{
+    let revision = v.revision;
+    if tlv::has_applications(revision) {
+        return create_with(p, v, g, gp, w, wp, a, ap);
+    }
+    let mut versions = v;
+    versions.applications = 0;
+    let off = Switches {
+        advertise: false,
+        enable: false,
+        willing: false,
+    };
+    create_with(p, versions, g, gp, w, wp, off, octets::first(ap, 0))
 }

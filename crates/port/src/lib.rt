@@ -3,6 +3,7 @@
 use feature::State;
 use notices::Kind;
 use tlv::Refusal;
+use tlv::Revision;
 
 pub mod events;
 pub mod writing;
@@ -28,7 +29,9 @@ pub struct Control {
     pub broken: bool,
 }
 
+// The revision is fixed at creation (02, E11).
 pub struct Port {
+    pub revision: Revision,
     pub admin: bool,
     pub receive: bool,
     pub transmit: bool,
@@ -39,8 +42,9 @@ pub struct Port {
     pub applications: State,
 }
 
-// The highest versions, fixed at creation.
+// The revision and the highest versions, fixed at creation.
 pub struct Versions {
+    pub revision: Revision,
     pub control: u8,
     pub groups: u8,
     pub flow: u8,

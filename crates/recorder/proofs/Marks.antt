@@ -11,7 +11,7 @@ use Rattle.tlv.specs.declared.Refusal.{Refusal}
 use Rattle.tlv.specs.declared.Refusal.the-variants.{NotRunning, SeveralNeighbours, InvalidSetting, UnknownFeature, NoPort}
 use Rattle.tlv.specs.declared.Reading.{Reading}
 use Rattle.tlv.specs.declared.Reading.the-variants.{Refused, Accepted}
-use Rattle.tlv.specs.Layout.{readFrame}
+use Rattle.tlv.specs.Revisions.{hasApplications, readFor}
 use Rattle.parameters.specs.declared.Feature.{Feature}
 use Rattle.parameters.specs.declared.Feature.the-variants.{Groups, Flow, Applications}
 use Rattle.parameters.specs.Parameters.{validLocal}
@@ -26,7 +26,7 @@ use Rattle.port.specs.declared.Raised.{Raised}
 use Rattle.port.specs.declared.Raised.the-variants as raised
 use Rattle.port.specs.declared.Versions.{Versions}
 use Rattle.port.specs.Parts.{featureOf, withControl, some, withFlag, running}
-use Rattle.port.specs.PortEvents.{withSeq, unsynced, sent, freshPort, refused, unchanged, event, made, createdPort, settingsValid, restarts, flagNotice, flagSet, flagged, peerGone, step5, withFeature, settingChanged, setTo, changedFeature, changedSetting}
+use Rattle.port.specs.PortEvents.{withSeq, unsynced, sent, freshPort, refused, unchanged, event, made, createdPort, settingsValid, restarts, flagNotice, flagSet, flagged, peerGone, step5, withFeature, settingChanged, setTo, changedFeature, changedApplications, changedSetting, versionsFor, switchesFor, parametersFor}
 use Rattle.port.specs.PortEvents as events
 use Rattle.handling.specs.Handling.{twice, exchanged, once, steps1to4, frameEvent, accepted, rejected, given, handled}
 use Rattle.recorder.specs.declared.Recorder.{Recorder}
@@ -80,7 +80,7 @@ at-port false x y p q e d = d
 module _ (p : Port) where
   frame-unmarked : (o : List ℕ) → unmarked (handled p o .port) ≡ unmarked (handled (unmarked p) o .port)
   unfolding handled given accepted frameEvent rejected steps1to4 twice once exchanged
-  frame-unmarked o = by (running p) (p .several) (readFrame o)
+  frame-unmarked o = by (running p) (p .several) (readFor (p .revision) o)
     where
       by : (a b : Bool) (x : Reading) →
           unmarked ((if not a then rejected NotRunning 0 p else if b then rejected SeveralNeighbours 0 p else given o x p) .port)
@@ -126,20 +126,28 @@ module _ (p : Port) where
       either-setting (validLocal Applications o) (sameSetting (p .applications .setting) (settingOf Applications w o)) (running p) p (unmarked p) _ _ _ refl
       (sent-unmarked (step5 p (withFeature p Applications (reset Applications (p .control .seq) (settingOf Applications w o) (p .applications)))))
 
+  applications-unmarked : (w : Switches) (o : List ℕ) → unmarked (changedApplications w o p .port) ≡ unmarked (changedApplications w o (unmarked p) .port)
+  unfolding changedApplications
+  applications-unmarked w o = by (hasApplications (p .revision))
+    where
+      by : (b : Bool) → unmarked ((if b then changedFeature Applications w o p else refused UnknownFeature p) .port)
+          ≡ unmarked ((if b then changedFeature Applications w o (unmarked p) else refused UnknownFeature (unmarked p)) .port)
+      by true = feature-unmarked Applications w o
+      by false = refl
+
   setting-unmarked : (number : ℕ) (w : Switches) (o : List ℕ) → unmarked (changedSetting number w o p .port) ≡ unmarked (changedSetting number w o (unmarked p) .port)
   unfolding changedSetting
   setting-unmarked number w o =
       either-number (number is 2) (number is 3) (number is 4) _ _ _ _ _ _ p (unmarked p) (feature-unmarked Groups w o) (feature-unmarked Flow w o)
-      (feature-unmarked Applications w o) refl
+      (applications-unmarked w o) refl
 
   created-unmarked : (v : Versions) (w : Feature → Switches) (o : Feature → List ℕ) → unmarked (events.created v w o p .port) ≡ unmarked (events.created v w o (unmarked p) .port)
-  unfolding events.created
-  created-unmarked v w o = by (settingsValid o)
+  unfolding events.created events.createdWith
+  created-unmarked v w o = by (settingsValid (parametersFor (v .revision) o)) (createdPort (versionsFor v) (switchesFor (v .revision) w) (parametersFor (v .revision) o))
     where
-      by : (b : Bool) → unmarked ((if b then made p (createdPort v w o) else refused InvalidSetting p) .port)
-          ≡ unmarked ((if b then made (unmarked p) (createdPort v w o) else refused InvalidSetting (unmarked p)) .port)
-      by true = refl
-      by false = refl
+      by : (b : Bool) (q : Port) → unmarked ((if b then made p q else refused InvalidSetting p) .port) ≡ unmarked ((if b then made (unmarked p) q else refused InvalidSetting (unmarked p)) .port)
+      by true q = refl
+      by false q = refl
 
   pub event-unmarked : (n : ℕ) (x : Operation) → unmarked (eventOf n p x .port) ≡ unmarked (eventOf n (unmarked p) x .port)
   unfolding eventOf changed created happens

@@ -1,18 +1,24 @@
 -- Every reachable recorder is sound. Assumes nothing.
-use Prim.Native.Nat.{ℕ}
+use Prim.Native.Nat.{ℕ, _<_}
 use native.Mathlib.Omega.{arith}
 use mathlib.Core.Path.{_≡_, refl, sym, ap, _∙_}
 use mathlib.Core.Bool.{Bool, true, false}
 use mathlib.Core.List.{List, [], _∷_}
 use lib.ListN.{length}
+use lib.Dec.{lit<}
 use borrow.Author.Tests.{eqb-true, eqb-false}
 use Rattle.octets.specs.Words.{if_then_else_, _is_}
 use Rattle.notices.specs.Notices.{isPort}
 use Rattle.notices.specs.Notices as numbers
 use Rattle.notices.specs.PortLaws.{is-port}
 use Rattle.tlv.specs.declared.Refusal.the-variants.{InvalidSetting, NoPort}
+use Rattle.tlv.specs.Revisions.{hasApplications}
+use Rattle.parameters.specs.declared.Feature.{Feature}
+use Rattle.parameters.specs.declared.Feature.the-variants.{Groups, Flow, Applications}
 use Rattle.port.specs.declared.Port.{Port}
-use Rattle.port.specs.PortEvents.{refused, createdPort, settingsValid, made}
+use Rattle.port.specs.declared.Versions.{Versions}
+use Rattle.port.specs.Parts.{maxOf}
+use Rattle.port.specs.PortEvents.{refused, createdPort, settingsValid, made, versionsFor, switchesFor, parametersFor}
 use Rattle.port.specs.PortEvents as events
 use Rattle.handling.specs.Handling as handling
 use Rattle.handling.proofs.Standing.{Standing, stopped-off, handled-stands, flagged-stands, gone-stands, setting-stands, created-stands, blank-stands}
@@ -25,15 +31,28 @@ use Rattle.recorder.proofs.Logged.{log-sound}
 
 -- ---- one call at one port
 
-event-stands : (n : ℕ) (p : Port) (x : Operation) → InRange x → Standing p → Standing (eventOf n p x .port)
-unfolding eventOf changed happens created events.created
-event-stands n p (create v w o) k h = by (isPort n) (settingsValid o) refl
+-- the versions that a revision takes
+pub versions-small : (v : Versions) → ((f : Feature) → maxOf v f < 256) → (f : Feature) → maxOf (versionsFor v) f < 256
+versions-small v k Groups = k Groups
+versions-small v k Flow = k Flow
+versions-small v k Applications = by (hasApplications (v .revision))
   where
-    by : (b c : Bool) → settingsValid o ≡ c
-        → Standing ((if b then (if c then made p (createdPort v w o) else refused InvalidSetting p) else refused NoPort p) .port)
+    by : (b : Bool) → (if b then v .applications else 0) < 256
+    by true = k Applications
+    by false = lit< tt
+
+event-stands : (n : ℕ) (p : Port) (x : Operation) → InRange x → Standing p → Standing (eventOf n p x .port)
+unfolding eventOf changed happens created events.created events.createdWith
+event-stands n p (create v w o) k h = by (isPort n) (settingsValid (parametersFor (v .revision) o)) refl
+  where
+    by : (b c : Bool) → settingsValid (parametersFor (v .revision) o) ≡ c
+        → Standing
+        ((if b then (if c then made p (createdPort (versionsFor v) (switchesFor (v .revision) w) (parametersFor (v .revision) o)) else refused InvalidSetting p)
+        else refused NoPort p) .port)
     by false c e = h
     by true false e = h
-    by true true e = created-stands v w o (k .0) (k .1) e
+    by true true e =
+        created-stands (versionsFor v) (switchesFor (v .revision) w) (parametersFor (v .revision) o) (k .0) (versions-small v (k .1)) e (λ t. (rw t refl, rw t refl, rw t refl))
 event-stands n p (frame o) k h = by (isPort n)
   where
     by : (b : Bool) → Standing ((if b then handling.handled p o else refused NoPort p) .port)

@@ -13,7 +13,11 @@ use Rattle.tlv.specs.declared.Refusal.the-variants.{NotRunning, SeveralNeighbou
 use Rattle.tlv.specs.declared.Reading.{Reading}
 use Rattle.tlv.specs.declared.Reading.the-variants as read
 use Rattle.tlv.specs.Refusals.{Reply, refusalNumber, refusalAt}
+use Rattle.tlv.specs.declared.Revision.{Revision}
+use Rattle.tlv.specs.declared.Revision.the-variants.{Rev101, Rev10}
 use Rattle.tlv.specs.Layout.{readFrame}
+use Rattle.tlv.specs.Revisions.{hasApplications, skipping, readFor}
+use Rattle.handling.proofs.Standing.{none-valid}
 use Rattle.parameters.specs.declared.Feature.{Feature}
 use Rattle.parameters.specs.declared.Feature.the-variants.{Groups, Flow, Applications}
 use Rattle.parameters.specs.Parameters.{validLocal}
@@ -33,7 +37,7 @@ use Rattle.port.specs.declared.Written.the-variants as wrote
 use Rattle.port.specs.Parts.{featureOf, flagOf, running}
 use Rattle.port.specs.Replies.{eventReply, writtenReply}
 use Rattle.port.specs.Writing as writing
-use Rattle.port.specs.PortEvents.{blankPort, listed, inOrder, silent, refused, unchanged, event, createdPort, settingsValid, made, flagNotice, flagSet, freshPort, settingChanged, setTo, changedFeature}
+use Rattle.port.specs.PortEvents.{blankPort, listed, inOrder, silent, refused, unchanged, event, createdPort, settingsValid, made, flagNotice, flagSet, freshPort, settingChanged, versionsFor, switchesFor, parametersFor, setTo, changedFeature}
 use Rattle.port.specs.PortEvents as events
 use Rattle.handling.specs.Handling.{newlyMarked, frameEvent, accepted, breaks, withBroken, alone, rejected, given}
 use Rattle.handling.specs.Handling as handling
@@ -42,7 +46,7 @@ use Rattle.recorder.specs.declared.Taken.{Taken}
 use Rattle.recorder.specs.declared.Took.the-variants as took
 use Rattle.recorder.specs.Recorder.{placeOf, portAt, happens, changed, created, stored, written, output, taken}
 use Rattle.recorder.specs.Calls.{Operation, create, frame, gone, flag, setting, write, take, Call, eventOf, raisedAt, afterAt, lentTo, lentAt, tookReply, replyAt}
-use Rattle.recorder.specs.Rows.{isFrame, invalid}
+use Rattle.recorder.specs.Rows.{isFrame, invalid, takesSetting}
 use Rattle.recorder.specs.Table.{applies, order, firstIn, firstAt, placeBeside}
 use Rattle.recorder.specs.Demand1.{unmarked, asked, valuesAt, reply, isBroken, newsOf, leftBy, Answers}
 use Rattle.recorder.proofs.FrameRows.{readNumber, readPlace, reading}
@@ -158,21 +162,22 @@ module _ (op : Operation) (p : Port) where
   told-feature h f w o false = told-refused true (here-no (isFrame op) h) InvalidSetting refl refl
   told-feature h f w o true = told-flag (sameSetting (featureOf p f .setting) (settingOf f w o)) raised.Nothing (settingChanged f (settingOf f w o) p)
 
-  -- over the tests "number is 2, 3, 4"
-  told-setting : isFrame op ≡ false → (w : Switches) (o : List ℕ) (a b c : Bool) →
+  -- over the tests "number is 2, 3, 4", and whether the port's revision has applications
+  told-setting : isFrame op ≡ false → (w : Switches) (o : List ℕ) (a b c d : Bool) →
       Asks true op p
       (if a then changedFeature Groups w o p
       else if b then changedFeature Flow w o p
-      else if c then changedFeature Applications w o p
+      else if c then (if d then changedFeature Applications w o p else refused UnknownFeature p)
       else refused UnknownFeature p)
-      (if not (a || b || c) then 11
+      (if not (a || b || (c && d)) then 11
       else if (if a then not (validLocal Groups o) else if b then not (validLocal Flow o) else if c then not (validLocal Applications o) else true) then 9
       else 0)
   unfolding refusalNumber placeBeside changedFeature
-  told-setting h w o true b c = told-feature h Groups w o (validLocal Groups o)
-  told-setting h w o false true c = told-feature h Flow w o (validLocal Flow o)
-  told-setting h w o false false true = told-feature h Applications w o (validLocal Applications o)
-  told-setting h w o false false false = told-refused true (here-no (isFrame op) h) UnknownFeature refl refl
+  told-setting h w o true b c d = told-feature h Groups w o (validLocal Groups o)
+  told-setting h w o false true c d = told-feature h Flow w o (validLocal Flow o)
+  told-setting h w o false false true true = told-feature h Applications w o (validLocal Applications o)
+  told-setting h w o false false true false = told-refused true (here-no (isFrame op) h) UnknownFeature refl refl
+  told-setting h w o false false false d = told-refused true (here-no (isFrame op) h) UnknownFeature refl refl
 
   -- creation, over the tests of its three settings
   told-created : isFrame op ≡ false → (v : Versions) (w : Feature → Switches) (o : Feature → List ℕ) (t a b d : Bool) →
@@ -238,17 +243,48 @@ module _ (n : ℕ) (l : Log) where
 
 -- ---- the events of a port
 
+-- no refusal depends on the revision
+read-number : (r : Revision) (o : List ℕ) → readNumber (readFor r o) ≡ readNumber (readFrame o)
+unfolding readFor skipping
+read-number Rev101 o = refl
+read-number Rev10 o = by (readFrame o)
+  where
+    by : (x : Reading) → readNumber (skipping x) ≡ readNumber x
+    by (read.Refused why place) = refl
+    by (read.Accepted c) = refl
+
+read-place : (r : Revision) (o : List ℕ) → readPlace (readFor r o) ≡ readPlace (readFrame o)
+unfolding readFor skipping
+read-place Rev101 o = refl
+read-place Rev10 o = by (readFrame o)
+  where
+    by : (x : Reading) → readPlace (skipping x) ≡ readPlace x
+    by (read.Refused why place) = refl
+    by (read.Accepted c) = refl
+
+-- what a creation takes for applications is valid, where it takes nothing: 02, E11
+taken-applications : (r : Revision) (o : Feature → List ℕ) →
+    (takesSetting r Applications && not (validLocal Applications (o Applications))) ≡ not (validLocal Applications (parametersFor r o Applications))
+taken-applications r o = by (hasApplications r)
+  where
+    by : (b : Bool) → (b && not (validLocal Applications (o Applications))) ≡ not (validLocal Applications (if b then o Applications else []))
+    by true = refl
+    by false = rw none-valid refl
+
 module _ (n : ℕ) (p : Port) (held : ℕ) where
   abbrev first : Operation → ℕ
   first x = firstIn order n p held x
 
   create-told : (v : Versions) (w : Feature → Switches) (o : Feature → List ℕ) → Asks (isPort n) (create v w o) p (eventOf n p (create v w o)) (first (create v w o))
-  unfolding eventOf created events.created settingsValid firstIn applies
-  create-told v w o = told-created (create v w o) p refl v w o (isPort n) (validLocal Groups (o Groups)) (validLocal Flow (o Flow)) (validLocal Applications (o Applications))
+  unfolding eventOf created events.created events.createdWith settingsValid firstIn applies
+  create-told v w o =
+      rw (taken-applications (v .revision) o)
+      (told-created (create v w o) p refl (versionsFor v) (switchesFor (v .revision) w) (parametersFor (v .revision) o) (isPort n) (validLocal Groups (o Groups))
+      (validLocal Flow (o Flow)) (validLocal Applications (parametersFor (v .revision) o Applications)))
 
   frame-told : (o : List ℕ) → Asks (isPort n) (frame o) p (eventOf n p (frame o)) (first (frame o))
   unfolding eventOf changed happens handling.handled firstIn applies
-  frame-told o = told-at (frame o) p (isPort n) _ _ (told-frame (frame o) p refl o (running p) (p .several) (readFrame o) _ (reading o .number) (reading o .place))
+  frame-told o = told-at (frame o) p (isPort n) _ _ (told-frame (frame o) p refl o (running p) (p .several) (readFor (p .revision) o) _ (read-number (p .revision) o ∙ reading o .number) (read-place (p .revision) o ∙ reading o .place))
 
   gone-told : Asks (isPort n) gone p (eventOf n p gone) (first gone)
   unfolding eventOf changed happens events.peerGone firstIn applies
@@ -259,8 +295,8 @@ module _ (n : ℕ) (p : Port) (held : ℕ) where
   flag-told x on = told-at (flag x on) p (isPort n) _ _ (told-flag (flag x on) p (Bool·beq (flagOf p x) on) (flagNotice x on) (flagSet x on p))
 
   setting-told : (number : ℕ) (w : Switches) (o : List ℕ) → Asks (isPort n) (setting number w o) p (eventOf n p (setting number w o)) (first (setting number w o))
-  unfolding eventOf changed happens events.changedSetting firstIn applies invalid
-  setting-told number w o = told-at (setting number w o) p (isPort n) _ _ (told-setting (setting number w o) p refl w o (number is 2) (number is 3) (number is 4))
+  unfolding eventOf changed happens events.changedSetting events.changedApplications firstIn applies invalid
+  setting-told number w o = told-at (setting number w o) p (isPort n) _ _ (told-setting (setting number w o) p refl w o (number is 2) (number is 3) (number is 4) (hasApplications (p .revision)))
 
 -- ---- what a refused event leaves of a recorder
 

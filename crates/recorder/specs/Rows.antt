@@ -1,11 +1,14 @@
 -- 01, Refusal numbers: the words of the table, each for itself. Of an operation that a row does not speak of its words are false.
 use Prim.Native.Nat.{ℕ, zero, suc, _+_}
-use mathlib.Core.Bool.{Bool, true, false, not, _||_}
+use mathlib.Core.Bool.{Bool, true, false, not, _&&_, _||_}
 use mathlib.Core.List.{List, [], _∷_}
 use lib.ListN.{length, take, drop}
 use Rattle.octets.specs.Words.{if_then_else_, _below_, _is_}
 use Rattle.octets.specs.Octets.{at, same}
 use Rattle.tlv.specs.Layout.{typeAt, lengthAt}
+use Rattle.tlv.specs.declared.Revision.{Revision}
+use Rattle.tlv.specs.Revisions.{hasApplications}
+use Rattle.parameters.specs.declared.Feature.{Feature}
 use Rattle.parameters.specs.declared.Feature.the-variants.{Groups, Flow, Applications}
 use Rattle.parameters.specs.Parameters.{validLocal}
 use Rattle.port.specs.Parts.{some}
@@ -136,9 +139,15 @@ invalid number o =
     else if number is 4 then not (validLocal Applications o)
     else true
 
--- in a change of setting, or in one of a creation's three
+-- 02, E11: "for 1.0 creation takes no setting for type 4"
+abbrev pub takesSetting : Revision → Feature → Bool
+takesSetting r Groups = true
+takesSetting r Flow = true
+takesSetting r Applications = hasApplications r
+
+-- in a change of setting, or in one of those that a creation takes
 abbrev pub setsInvalid : Operation → Bool
-setsInvalid (call.create v w o) = some (λ f. not (validLocal f (o f)))
+setsInvalid (call.create v w o) = some (λ f. takesSetting (v .revision) f && not (validLocal f (o f)))
 setsInvalid (call.frame o) = false
 setsInvalid call.gone = false
 setsInvalid (call.flag x on) = false

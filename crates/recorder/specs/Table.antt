@@ -8,6 +8,7 @@ use lib.ListN.{length, drop}
 use Rattle.octets.specs.Words.{if_then_else_, _below_, _is_}
 use Rattle.octets.specs.Octets.{at}
 use Rattle.tlv.specs.Layout.{lengthAt}
+use Rattle.tlv.specs.Revisions.{hasApplications}
 use Rattle.notices.specs.Notices.{isPort, countOf}
 use Rattle.port.specs.declared.Port.{Port}
 use Rattle.port.specs.Parts.{running}
@@ -42,8 +43,8 @@ applies k n p held x =
     else if k is 9 then setsInvalid x
     -- "lent output shorter than the frame"
     else if k is 10 then ofWrite x (λ out. length out below length (frame p))
-    -- "feature number not 2, 3 or 4"
-    else if k is 11 then ofSetting x (λ number o. not (number is 2 || number is 3 || number is 4))
+    -- "feature number not 2, 3 or 4"; E11: under 1.0 "a setting for it is refused with 11"
+    else if k is 11 then ofSetting x (λ number o. not (number is 2 || number is 3 || (number is 4 && hasApplications (p .revision))))
     -- "taking a notice when none is held"; E10: "refusal 12 is judged per port"
     else if k is 12 then ofTaking x (held is 0)
     else false

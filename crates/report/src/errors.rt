@@ -21,6 +21,7 @@ fn name_place(n: Name) -> u64 {
         Name::Percentages => 16,
         Name::Mask => 17,
         Name::Classes => 18,
+        Name::Revision => 19,
     }
 }
 
@@ -49,7 +50,7 @@ fn field(out: &mut [u8], at: usize, f: Field) -> usize {
         _ => forms::put(
             out,
             at,
-            b"[a bit is|two hex digits are|four hex digits are|a selector is|parameters is|octets are|the end of the line is|control is|groups is|flow is|applications is|max is|advertise is|enable is|willing is|priorities is|percentages is|mask is|classes is] due\n",
+            b"[a bit is|two hex digits are|four hex digits are|a selector is|parameters is|octets are|the end of the line is|control is|groups is|flow is|applications is|max is|advertise is|enable is|willing is|priorities is|percentages is|mask is|classes is|revision is] due\n",
             &numbers,
         ),
     }
@@ -62,6 +63,7 @@ fn due(out: &mut [u8], at: usize, d: Due) -> usize {
         Due::Event => crate::text(out, at, b"an event is due\n"),
         Due::Feature => crate::text(out, at, b"a feature is due\n"),
         Due::Frame => crate::text(out, at, b"a frame is due\n"),
+        Due::Revision => crate::text(out, at, b"1.0 or 1.01 is due\n"),
     }
 }
 

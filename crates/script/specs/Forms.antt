@@ -32,8 +32,9 @@ nameText Name.Priorities = text "priorities"
 nameText Name.Percentages = text "percentages"
 nameText Name.Mask = text "mask"
 nameText Name.Classes = text "classes"
+nameText Name.Revision = text "revision"
 
--- "SELECTOR is ethertype (0), port (1), selector-2 or selector-3."
+-- "SELECTOR is ethertype (selector 0), port (1), selector-2 or selector-3"
 unfoldable pub selector : List ℕ → Number
 selector w =
     if same w (text "ethertype") then Is 0
@@ -47,7 +48,7 @@ unfoldable pub said : Bool → Number
 said true = Is 0
 said false = Not
 
--- what a word says, if it is what is due. "A bit is 0 or 1." "HEX is 0 to 507 octets."
+-- what a word says, if it is what is due. "A bit is 0 or 1 and nothing else." "the parameters as octets: none, or 1 to 507"
 unfoldable pub fieldNumber : Field → List ℕ → Number
 fieldNumber (Word n) w = said (same w (nameText n))
 fieldNumber Bit w = if length w is 1 then number 1 w else Not

@@ -6,6 +6,7 @@ use lib.ListN.{length, take, drop, replicate}
 use Rattle.octets.specs.Words.{if_then_else_, _below_, _is_}
 use Rattle.octets.specs.Octets.{at, same}
 use Rattle.octets.specs.Texts.{text}
+use Rattle.tlv.specs.declared.Revision.the-variants.{Rev101, Rev10}
 use Rattle.script.specs.declared.forms.Name.{Name}
 use Rattle.script.specs.declared.forms.Name.the-variants as Name
 use Rattle.script.specs.declared.forms.Field.the-variants.{Word, Bit, Decimal, End}
@@ -38,11 +39,11 @@ passedOver s = length s is 0 || at s 0 is 35
 
 -- ---- the port that a line may begin with
 
--- "its first word is a number, 0 to 255"
+-- "a number, 0 to 255, as its first word"
 abbrev pub portNumber : List ℕ → Number
 portNumber s = number 255 (first (words s))
 
--- "Without a port, port 1 is meant."
+-- "A line without a port is for port 1."
 unfoldable pub portWord : Number → PortWord
 portWord Not = record { given = false; number = 1 }
 portWord (Is n) = record { given = true; number = n % 256 }
@@ -72,11 +73,11 @@ bare k = lineOf k []
 abbrev pub unreadable : Unread → Line
 unreadable why = bare (Kind.Unreadable why)
 
--- "which word (from 1) and what is due there. The word is the first that is not what is due."
+-- "the first word that is not what is due there, and .. what is": "Words are counted from 1", here of the line behind its port
 abbrev pub notDue : ℕ → Due → Line
 notDue word due = unreadable (Unread.Word word due)
 
--- "a line whose last octet is a carriage return"
+-- "one whose last octet is a carriage return"
 unfoldable pub returned : List ℕ → Bool
 returned s = at s (length s - 1) is 13
 
@@ -109,9 +110,23 @@ partName Part.Groups = Name.Groups
 partName Part.Flow = Name.Flow
 partName Part.Applications = Name.Applications
 
+-- the words behind `control max N revision`: "1.0 or 1.01", to the letter
+unfoldable pub namedRevision : ℕ → List (List ℕ) → Line
+namedRevision max ws =
+    if same (first ws) (text "1.0") then alone (Kind.Control max Rev10) 6 (others ws)
+    else if same (first ws) (text "1.01") then alone (Kind.Control max Rev101) 6 (others ws)
+    else notDue 5 Due.Revision
+
+-- the words behind `control max N`: "nothing or revision R", and "where none is named it is 1.01"
+unfoldable pub controlOf : ℕ → List (List ℕ) → Line
+controlOf max ws =
+    if length ws is 0 then bare (Kind.Control max Rev101)
+    else if same (first ws) (nameText Name.Revision) then namedRevision max (others ws)
+    else notDue 4 (Due.Field (Word Name.Revision))
+
 -- the words behind `NAME max N`
 unfoldable pub settingOf : Part → ℕ → List (List ℕ) → Line
-settingOf Part.Control max ws = alone (Kind.Control max) 4 ws
+settingOf Part.Control max ws = controlOf max ws
 settingOf Part.Groups max ws = feature Form.Groups 4 max ws
 settingOf Part.Flow max ws = feature Form.Flow 4 max ws
 settingOf Part.Applications max ws = feature Form.Applications 4 max ws
@@ -135,9 +150,13 @@ settingLine p s =
     else if same (first (words s)) (nameText (partName p)) then behindName p (others (words s))
     else notDue 1 (Due.Field (Word (partName p)))
 
--- a line behind the four of a port: "it begins the settings of another port if its first word, behind a port if it has one, is control"
+-- a line behind those of a port: "a line that begins with control, a port before it aside, begins the settings of the next port. One that begins
+-- with applications is a line of settings too, which is not due". Any other is the first event.
+unfoldable pub settingsWord : List ℕ → Bool
+settingsWord w = same w (nameText Name.Control) || same w (nameText Name.Applications)
+
 unfoldable pub beginsSettings : List ℕ → Bool
-beginsSettings s = same (first (wordsBehind (portWord (portNumber s) .given) s)) (nameText Name.Control)
+beginsSettings s = settingsWord (first (wordsBehind (portWord (portNumber s) .given) s))
 
 -- ---- events
 
@@ -183,7 +202,7 @@ formOf w =
     else if same w (nameText Name.Applications) then Form.Applications
     else Form.Plain
 
--- "behind set: a feature is due (not groups, flow, applications or a number up to 255)"
+-- "a feature is due: behind set"; a number up to 255 is one
 unfoldable pub numbered : Number → List (List ℕ) → Line
 numbered Not ws = notDue 2 Due.Feature
 numbered (Is n) ws = plain (n % 256) ws
@@ -194,7 +213,7 @@ changeOf Form.Flow ws = feature Form.Flow 3 3 (others ws)
 changeOf Form.Applications ws = feature Form.Applications 3 4 (others ws)
 changeOf Form.Plain ws = numbered (number 255 (first ws)) (others ws)
 
--- the words behind the first; "a line whose first word is B and that is no frame of a capture: word 2, a frame is due"
+-- the words behind the first; "a frame is due: behind B, if the line is not a capture's to the letter"
 unfoldable pub eventOf : Keyword → List (List ℕ) → Line
 eventOf Keyword.Gone ws = alone Kind.Gone 2 ws
 eventOf Keyword.Take ws = alone Kind.Take 2 ws

@@ -10,6 +10,7 @@ use borrow.Author.Tests.{lt-ltb, le-ltb, eq-eqb, ne-eqb, not-true, not-false}
 use Rattle.octets.specs.Words.{if_then_else_, _is_}
 use Rattle.octets.specs.Octets.{at, same}
 use Rattle.octets.specs.Texts.{text}
+use Rattle.tlv.specs.declared.Revision.the-variants.{Rev101, Rev10}
 use Rattle.script.specs.declared.forms.Name.{Name}
 use Rattle.script.specs.declared.forms.Name.the-variants as Name
 use Rattle.script.specs.declared.forms.Field.the-variants.{Word, Bit, Decimal, End}
@@ -33,7 +34,7 @@ use Rattle.script.specs.declared.Line.{Line}
 use Rattle.script.specs.declared.PortWord.{PortWord}
 use Rattle.script.specs.Text.{words, first, others, number, listed, isOctets, octetsOf}
 use Rattle.script.specs.Forms.{nameText, fieldNumber, valuesOf, parameterCount, parameterAt, parametersOf}
-use Rattle.script.specs.Lines.{passedOver, portNumber, portWord, behindPort, wordsBehind, beginsSettings, filled, lineOf, bare, unreadable, notDue, returned, settingKind, settingWith, feature, plain, alone, partName, settingOf, settingMax, behindMax, behindName, settingLine, flagWord, keyword, flagBit, flag, writeRoom, write, formOf, numbered, changeOf, eventOf, isFrame, eventLine}
+use Rattle.script.specs.Lines.{passedOver, portNumber, portWord, behindPort, wordsBehind, settingsWord, beginsSettings, filled, lineOf, bare, unreadable, notDue, returned, settingKind, settingWith, feature, plain, alone, partName, namedRevision, controlOf, settingOf, settingMax, behindMax, behindName, settingLine, flagWord, keyword, flagBit, flag, writeRoom, write, formOf, numbered, changeOf, eventOf, isFrame, eventLine}
 use Rattle.script.specs.StepsLaws.{trimmed, firstWord, rest}
 use Rattle.script.specs.TextLaws.{length-listed}
 use Rattle.script.specs.WordsLaws.{words-trimmed, first-word, other-words}
@@ -174,9 +175,48 @@ module _ (number : ℕ) (s : List ℕ) {v : Values} where
 
 -- ---- the words behind the first
 
-pub setting-control : (p : Part) (max : ℕ) (s : List ℕ) {l : Line} → p ≡ Part.Control → l ≡ alone (Kind.Control max) 4 (words s) → l ≡ settingOf p max (words s)
+pub setting-control : (p : Part) (max : ℕ) (s : List ℕ) {l : Line} → p ≡ Part.Control → l ≡ controlOf max (words s) → l ≡ settingOf p max (words s)
 unfolding settingOf
 setting-control p max s e h = h ∙ rw e
+
+-- a revision that is named
+module _ (max : ℕ) (s : List ℕ) {w : List ℕ} {a : Bool} {l : Line} where
+  pub named-10 : {more : List ℕ} → w ≡ firstWord s → more ≡ rest s → a ≡ same w (text "1.0") → a ≡ true → l ≡ alone (Kind.Control max Rev10) 6 (words more) → l ≡ namedRevision max (words s)
+  unfolding namedRevision
+  named-10 g m e t h = let z : same (firstWord s) (text "1.0") ≡ true = rw (← g) (sym e ∙ t) in h ∙ simp (first-word s, z, other-words s, m)
+
+  module _ {b : Bool} where
+    pub named-101 : {more : List ℕ} → w ≡ firstWord s → more ≡ rest s → a ≡ same w (text "1.0") → a ≡ false → b ≡ same w (text "1.01") → b ≡ true → l ≡ alone (Kind.Control max Rev101) 6 (words more) → l ≡ namedRevision max (words s)
+    unfolding namedRevision
+    named-101 g m e t f u h =
+        let y : same (firstWord s) (text "1.0") ≡ false = rw (← g) (sym e ∙ t) in
+        let z : same (firstWord s) (text "1.01") ≡ true = rw (← g) (sym f ∙ u) in
+        h ∙ simp (first-word s, y, z, other-words s, m)
+
+    pub named-not : w ≡ firstWord s → a ≡ same w (text "1.0") → a ≡ false → b ≡ same w (text "1.01") → b ≡ false → l ≡ notDue 5 Due.Revision → l ≡ namedRevision max (words s)
+    unfolding namedRevision
+    named-not g e t f u h =
+        let y : same (firstWord s) (text "1.0") ≡ false = rw (← g) (sym e ∙ t) in
+        let z : same (firstWord s) (text "1.01") ≡ false = rw (← g) (sym f ∙ u) in
+        h ∙ simp (first-word s, y, z)
+
+module _ (max : ℕ) (s : List ℕ) {b : Bool} {l : Line} where
+  pub control-over : b ≡ eqb (length (words s)) 0 → b ≡ true → l ≡ bare (Kind.Control max Rev101) → l ≡ controlOf max (words s)
+  unfolding controlOf
+  control-over e t h = h ∙ simp (sym e ∙ t)
+
+  module _ {w : List ℕ} {d : Bool} where
+    pub control-revision : {more : List ℕ} → b ≡ eqb (length (words s)) 0 → b ≡ false → w ≡ firstWord s → d ≡ same w (nameText Name.Revision) → d ≡ true → more ≡ rest s → l ≡ namedRevision max (words more) → l ≡ controlOf max (words s)
+    unfolding controlOf
+    control-revision e t g f u m h =
+        let z : same (firstWord s) (nameText Name.Revision) ≡ true = rw (← g) (sym f ∙ u) in
+        h ∙ simp (sym e ∙ t, first-word s, z, other-words s, m)
+
+    pub control-not : b ≡ eqb (length (words s)) 0 → b ≡ false → w ≡ firstWord s → d ≡ same w (nameText Name.Revision) → d ≡ false → l ≡ notDue 4 (Due.Field (Word Name.Revision)) → l ≡ controlOf max (words s)
+    unfolding controlOf
+    control-not e t g f u h =
+        let z : same (firstWord s) (nameText Name.Revision) ≡ false = rw (← g) (sym f ∙ u) in
+        h ∙ simp (sym e ∙ t, first-word s, z)
 
 module _ (p : Part) (max : ℕ) (s : List ℕ) {l : Line} where
   pub setting-groups : p ≡ Part.Groups → l ≡ feature Form.Groups 4 max (words s) → l ≡ settingOf p max (words s)
@@ -296,12 +336,21 @@ pub words-behind : (s : List ℕ) → length s ≤ 1100 → words (behindPort tr
 unfolding behindPort
 words-behind s l = simp (le-ltb 1100 (length s) l) (words-trimmed (rest s) ∙ sym (other-words s))
 
+module _ (w : List ℕ) {a : Bool} where
+  pub settings-control : a ≡ same w (nameText Name.Control) → a ≡ true → true ≡ settingsWord w
+  unfolding settingsWord
+  settings-control e t = simp (sym e ∙ t)
+
+  pub settings-applications : {b : Bool} → a ≡ same w (nameText Name.Control) → a ≡ false → b ≡ same w (nameText Name.Applications) → b ≡ settingsWord w
+  unfolding settingsWord
+  settings-applications e t f = f ∙ simp (sym e ∙ t)
+
 module _ (s : List ℕ) {p : PortWord} {w : List ℕ} {b : Bool} where
-  pub begins-given : {t : List ℕ} → p ≡ portWord (portNumber s) → p .given ≡ true → t ≡ rest s → w ≡ firstWord t → b ≡ same w (nameText Name.Control) → b ≡ beginsSettings s
+  pub begins-given : {t : List ℕ} → p ≡ portWord (portNumber s) → p .given ≡ true → t ≡ rest s → w ≡ firstWord t → b ≡ settingsWord w → b ≡ beginsSettings s
   unfolding beginsSettings wordsBehind
   begins-given {t} e h g k m = let z : portWord (portNumber s) .given ≡ true = rw (← e) h in m ∙ simp (z, other-words s, sym g, first-word t, sym k)
 
-  pub begins-none : p ≡ portWord (portNumber s) → p .given ≡ false → w ≡ firstWord s → b ≡ same w (nameText Name.Control) → b ≡ beginsSettings s
+  pub begins-none : p ≡ portWord (portNumber s) → p .given ≡ false → w ≡ firstWord s → b ≡ settingsWord w → b ≡ beginsSettings s
   unfolding beginsSettings wordsBehind
   begins-none e h k m = let z : portWord (portNumber s) .given ≡ false = rw (← e) h in m ∙ rw z (simp (first-word s, sym k))
 

@@ -24,6 +24,7 @@ pub enum Name {
     Percentages,
     Mask,
     Classes,
+    Revision,
 }
 
 // What a word is to be: a fixed word, a bit, a number up to a limit, two or four hex digits, or the octets of parameters. Where
@@ -126,6 +127,7 @@ pub fn is_name(n: Name, w: &[u8]) -> bool
         Name::Percentages => octets::same_octets(w, b"percentages"),
         Name::Mask => octets::same_octets(w, b"mask"),
         Name::Classes => octets::same_octets(w, b"classes"),
+        Name::Revision => octets::same_octets(w, b"revision"),
     }
 }
 

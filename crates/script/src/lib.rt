@@ -5,16 +5,17 @@ ghost use lib.ListN.{length, drop};
 ghost use Rattle.octets.specs.Octets.{same};
 ghost use Rattle.script.specs.Text.{words, first, octetsOf};
 ghost use Rattle.script.specs.Forms.{nameText};
-ghost use Rattle.script.specs.Lines.{portWord, portNumber, behindPort, beginsSettings, passedOver, returned, filled, bare, notDue, settingKind, feature, plain, numbered, partName, settingOf, behindMax, behindName, settingLine, keyword, flagWord, alone, flag, write, formOf, changeOf, eventOf, isFrame, eventLine};
+ghost use Rattle.script.specs.Lines.{portWord, portNumber, behindPort, settingsWord, beginsSettings, passedOver, returned, filled, bare, notDue, settingKind, feature, plain, numbered, partName, namedRevision, controlOf, settingOf, behindMax, behindName, settingLine, keyword, flagWord, alone, flag, write, formOf, changeOf, eventOf, isFrame, eventLine};
 use forms::Field;
 use forms::Form;
 use forms::Name;
 use text::Number;
+use tlv::Revision;
 
 pub mod forms;
 pub mod text;
 
-// The four lines of an end's settings.
+// The lines of an end's settings, the last of them for Rev 1.01 alone.
 pub enum Part {
     Control,
     Groups,
@@ -48,12 +49,14 @@ pub struct PortWord {
     pub number: u8,
 }
 
-// What is due at a word: a field of the line's form, an event's first word, the feature behind `set`, or the frame behind `B`.
+// What is due at a word: a field of the line's form, an event's first word, the feature behind `set`, the frame behind `B`, or the
+// name of a revision.
 pub enum Due {
     Field(Field),
     Event,
     Feature,
     Frame,
+    Revision,
 }
 
 // Why a line cannot be read: it is too long, it ends with a carriage return, or a word is not what is due. That is the first such
@@ -67,7 +70,7 @@ pub enum Unread {
 // What a line says. `number` is the highest version in a line of the settings, and the feature's number in an event.
 pub enum Kind {
     Unreadable(Unread),
-    Control(u8),
+    Control(u8, Revision),
     Setting {
         number: u8,
         advertise: bool,
@@ -224,12 +227,40 @@ pub fn part_name(p: Part) -> Name
     }
 }
 
+// The words behind `control max N revision`.
+fn named_revision(max: u8, s: &[u8]) -> Line
+    ensures { λ r. ⌜ r ≡ namedRevision max (words (now (s .entry))) ⌝ }
+{
+    let w = text::word(s);
+    let more = text::behind(s);
+    if octets::same_octets(w, b"1.0") {
+        return alone(Kind::Control(max, Revision::Rev10), 6, more);
+    }
+    if octets::same_octets(w, b"1.01") {
+        return alone(Kind::Control(max, Revision::Rev101), 6, more);
+    }
+    not_due(5, Due::Revision)
+}
+
+// The words behind `control max N`. Where no revision is named it is 1.01.
+fn control_of(max: u8, s: &[u8]) -> Line
+    ensures { λ r. ⌜ r ≡ controlOf max (words (now (s .entry))) ⌝ }
+{
+    if forms::is_over(s) {
+        return bare(Kind::Control(max, Revision::Rev101));
+    }
+    if forms::is_name(Name::Revision, text::word(s)) {
+        return named_revision(max, text::behind(s));
+    }
+    not_due(4, Due::Field(Field::Word(Name::Revision)))
+}
+
 // The words behind `NAME max N`.
 fn setting_of(p: Part, max: u8, s: &[u8]) -> Line
     ensures { λ r. ⌜ r ≡ settingOf p max (words (now (s .entry))) ⌝ }
 {
     match p {
-        Part::Control => alone(Kind::Control(max), 4, s),
+        Part::Control => control_of(max, s),
         Part::Groups => feature(Form::Groups, 4, max, s),
         Part::Flow => feature(Form::Flow, 4, max, s),
         Part::Applications => feature(Form::Applications, 4, max, s),
@@ -282,15 +313,25 @@ pub fn parse_setting(due: Part, line: &[u8]) -> Line
     not_due(1, Due::Field(Field::Word(name)))
 }
 
-// Whether a line, which may be an event, begins the settings of a port.
+// Whether a word can begin a line behind a port's settings that is no event.
+fn is_settings_word(w: &[u8]) -> bool
+    ensures { λ r. ⌜ r ≡ settingsWord (now (w .entry)) ⌝ }
+{
+    if forms::is_name(Name::Control, w) {
+        return true;
+    }
+    forms::is_name(Name::Applications, w)
+}
+
+// Whether a line behind a port's settings, which may be an event, is one of settings.
 pub fn begins_settings(line: &[u8]) -> bool
     ensures { λ r. ⌜ r ≡ beginsSettings (now (line .entry)) ⌝ }
 {
     let w = port_of(line);
     if w.given {
-        return forms::is_name(Name::Control, text::word(text::behind(line)));
+        return is_settings_word(text::word(text::behind(line)));
     }
-    forms::is_name(Name::Control, text::word(line))
+    is_settings_word(text::word(line))
 }
 
 fn keyword_of(w: &[u8]) -> Keyword

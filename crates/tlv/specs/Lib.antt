@@ -2,6 +2,7 @@ pub mod Refusals
 pub mod Layout
 pub mod Replies
 pub mod Halting
+pub mod Revisions
 pub mod Promises
 pub mod Walking
 pub mod Laws
@@ -10,4 +11,5 @@ pub mod WrittenLaws
 pub mod ReadBackLaws
 pub mod WalkingLaws
 pub mod HaltingLaws
+pub mod RevisionLaws
 pub mod ResumingLaws

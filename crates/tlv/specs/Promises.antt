@@ -6,7 +6,9 @@ use lib.ListN.{length}
 use Rattle.tlv.specs.declared.Contents.{Contents}
 use Rattle.tlv.specs.declared.Reading.{Reading}
 use Rattle.tlv.specs.declared.Reading.the-variants.{Accepted}
+use Rattle.tlv.specs.declared.Revision.{Revision}
 use Rattle.tlv.specs.Layout.{readFrame}
+use Rattle.tlv.specs.Revisions.{readFor}
 
 -- each value that was found lies within the octets
 pub record Inside (o : List ℕ) (c : Contents) : Type 0 where
@@ -17,4 +19,9 @@ pub record Inside (o : List ℕ) (c : Contents) : Type 0 where
 
 pub record ReadPromise (o : List ℕ) (r : Reading) : Type 0 where
   pub is : r ≡ readFrame o
+  pub inside : (c : Contents) → r ≡ Accepted c → Inside o c
+
+-- and of `read_for`
+pub record ReadsFor (v : Revision) (o : List ℕ) (r : Reading) : Type 0 where
+  pub is : r ≡ readFor v o
   pub inside : (c : Contents) → r ≡ Accepted c → Inside o c

@@ -7,7 +7,8 @@ ghost use Rattle.tlv.specs.Refusals.{refusalNumber};
 ghost use Rattle.tlv.specs.Layout.{headAt, counts, foundAgain, noContents, headOf, isDcbx, frameHead};
 ghost use Rattle.tlv.specs.Halting.{notedAt, noControl, controlIn, keptBehind, begun, passed, judged, finished};
 ghost use Rattle.tlv.specs.HaltingLaws.{Room, Came, Ahead, judgedEnd};
-ghost use Rattle.tlv.specs.Promises.{ReadPromise};
+ghost use Rattle.tlv.specs.Revisions.{hasApplications, skipping};
+ghost use Rattle.tlv.specs.Promises.{ReadPromise, ReadsFor};
 
 // The TLV's type (01, TLV layout).
 const DCBX: u8 = 127;
@@ -27,6 +28,12 @@ const APPLICATIONS: u8 = 4;
 const CONTROL_LENGTH: usize = 10;
 
 pub mod reader;
+
+// The two revisions in the field (02, E11). Rev 1.0 has no application feature.
+pub enum Revision {
+    Rev101,
+    Rev10,
+}
 
 // Why a call is refused; `refusalNumber` in specs/ gives document 01's number of each.
 pub enum Refusal {
@@ -420,6 +427,46 @@ pub fn read(s: &[u8]) -> Reading
         return Reading::Refused(Refusal::WrongLength, 0);
     }
     walk_on(s, 0, begin_walk())
+}
+
+// Whether ports of a revision have the application feature.
+pub fn has_applications(r: Revision) -> bool
+    ensures { λ b. ⌜ b ≡ hasApplications r ⌝ }
+{
+    match r {
+        Revision::Rev101 => true,
+        Revision::Rev10 => false,
+    }
+}
+
+// What was found but applications.
+fn without_applications(r: Reading) -> Reading
+    ensures { λ x. ⌜ x ≡ skipping r ⌝ }
+{
+    match r {
+        Reading::Refused(why, place) => Reading::Refused(why, place),
+        Reading::Accepted(c) => {
+            let none = Found {
+                count: 0,
+                start: 0,
+                length: 0,
+            };
+            let mut next = c;
+            next.applications = none;
+            Reading::Accepted(next)
+        }
+    }
+}
+
+// Reads a frame for a port of a revision: under Rev 1.0 type 4 is skipped like any unknown type (02, E11).
+pub fn read_for(revision: Revision, s: &[u8]) -> Reading
+    ensures { λ r. ⌜ ReadsFor revision (now (s .entry)) r ⌝ }
+{
+    let r = read(s);
+    if has_applications(revision) {
+        return r;
+    }
+    without_applications(r)
 }
 
 // Writes the first six octets of a frame whose sub-TLVs fill `n` octets. For the layer above, which has looked at the

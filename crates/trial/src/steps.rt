@@ -17,6 +17,7 @@ use recorder::Recorder;
 use recorder::Taken;
 use recorder::Took;
 use tlv::Refusal;
+use tlv::Revision;
 
 // What a step leaves: the port at hand, the log, and the place of the output.
 pub struct Left {
@@ -69,12 +70,21 @@ fn switches(x: u8) -> Switches {
     }
 }
 
+fn revision(x: u8) -> Revision {
+    if x == 1 {
+        return Revision::Rev10;
+    }
+    Revision::Rev101
+}
+
 fn versions(body: &[u8]) -> Versions {
-    let control = octets::octet(body, 0);
-    let groups = octets::octet(body, 1);
-    let flow = octets::octet(body, 3);
-    let applications = octets::octet(body, 5);
+    let rev = revision(octets::octet(body, 0));
+    let control = octets::octet(body, 1);
+    let groups = octets::octet(body, 2);
+    let flow = octets::octet(body, 4);
+    let applications = octets::octet(body, 6);
     Versions {
+        revision: rev,
         control: control,
         groups: groups,
         flow: flow,
@@ -219,19 +229,19 @@ fn tell(out: &mut [u8], at: usize, told: Told, n: u8, p: Port, l: Log) -> usize 
 
 // Creates port `n` in the place of `p`. The parameters are handed on as parts of the step.
 pub fn create(n: u8, p: Port, body: &[u8]) -> Event {
-    let groups = place::number2(body, 7);
-    let flow = place::number2(body, 9);
-    let all = octets::from(body, 11);
+    let groups = place::number2(body, 8);
+    let flow = place::number2(body, 10);
+    let all = octets::from(body, 12);
     let behind = octets::from(all, groups);
     recorder::create(
         n,
         p,
         versions(body),
-        switches(octets::octet(body, 2)),
+        switches(octets::octet(body, 3)),
         octets::first(all, groups),
-        switches(octets::octet(body, 4)),
+        switches(octets::octet(body, 5)),
         octets::first(behind, flow),
-        switches(octets::octet(body, 6)),
+        switches(octets::octet(body, 7)),
         octets::from(behind, flow),
     )
 }

@@ -2,7 +2,7 @@
 //! that it gives. crates/trial/src/lib.rt describes both.
 
 use reference::events::{Answer, Call, Event, OwnedSetting, OwnedSettings};
-use reference::{Flag, Notice, Port, Recorder};
+use reference::{Flag, Notice, Port, Recorder, Revision};
 
 /// What every octet of the output holds before a run, and so what a write finds.
 pub use reference::events::FILL;
@@ -116,9 +116,11 @@ fn switches(setting: &OwnedSetting) -> u8 {
     u8::from(setting.advertise) * 4 + u8::from(setting.enable) * 2 + u8::from(setting.willing)
 }
 
-/// A creation step without its length.
+/// A creation step without its length. Under Rev 1.0 what it says of applications is not to be
+/// looked at.
 pub fn creation(port: u8, settings: &OwnedSettings) -> Vec<u8> {
-    let mut octets = vec![0, port, settings.control_max];
+    let old = settings.revision == Revision::R1_0;
+    let mut octets = vec![0, port, u8::from(old), settings.control_max];
     for (max, setting) in &settings.feature {
         octets.extend([*max, switches(setting)]);
     }

@@ -4,7 +4,7 @@
 use crate::script::{Script, Step, What};
 use reference::events::{Event, OwnedSetting};
 use reference::text::Text;
-use reference::{Flag, Port, Recorder};
+use reference::{Flag, Port, Recorder, Revision};
 use std::fmt::Write;
 
 pub fn hex(octets: &[u8]) -> String {
@@ -26,13 +26,15 @@ fn string(text: Text) -> String {
     String::from_utf8(text.0).expect("ASCII")
 }
 
-/// The settings of a port as four lines, the last without its line feed.
+/// The settings of a port as lines, the last without its line feed.
 fn settings_lines(number: u8, port: &Port) -> String {
     let mut text = Text::default();
-    text.number(number).put(" control").field("max", port.control().max);
+    text.number(number).put(" ").control_line(port);
     text.put("\n").number(number).put(" ").settings_line(port.groups());
     text.put("\n").number(number).put(" ").settings_line(port.flow());
-    text.put("\n").number(number).put(" ").settings_line(port.applications());
+    if port.revision() == Revision::R1_01 {
+        text.put("\n").number(number).put(" ").settings_line(port.applications());
+    }
     string(text)
 }
 
@@ -132,6 +134,7 @@ impl<'a> Named<'a> {
 
     /// One port, its names behind `of`.
     fn port(&mut self, of: &str) {
+        self.take(format!("{of}revision"), 1);
         for (name, size) in [("Oper", 1), ("Max", 1), ("SeqNo", 4), ("AckNo", 4)] {
             self.take(format!("{of}{name}"), size);
         }

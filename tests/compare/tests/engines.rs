@@ -8,7 +8,7 @@ use compare::{engine, environment, script, words, Script, Step, What};
 use coverage::Coverage;
 use reference::events::{assemble, Answer, Event, Generator, OwnedSetting, OwnedSettings};
 use reference::rng::XorShift;
-use reference::{Port, Recorder};
+use reference::{Port, Recorder, Revision};
 
 const SEED: u64 = 0x0dcb_0101;
 const EVENTS: u64 = 3_000_000;
@@ -114,6 +114,7 @@ fn seqno_wraps() {
         parameters: parameters.to_vec(),
     };
     let settings = OwnedSettings {
+        revision: Revision::R1_01,
         control_max: 0,
         feature: [
             (0, setting(&[0, 1, 0, 0, 50, 50, 0, 0, 0, 0, 0, 0, 2])),

@@ -2,7 +2,7 @@
 //! nanoseconds. `cargo run --release --offline --example speed`
 
 use reference::layout::{self, LONGEST_FRAME};
-use reference::{Recorder, Setting, Settings, PORTS};
+use reference::{Recorder, Revision, Setting, Settings, PORTS};
 use std::hint::black_box;
 use std::time::Instant;
 
@@ -25,7 +25,7 @@ fn main() {
             control_max: 0,
             groups: (0, setting(&[0, 1, 0, 0, 50, 50, 0, 0, 0, 0, 0, 0, 2])),
             flow: (0, setting(&[8, 8])),
-            applications: (0, setting(applications)),
+            applications: Some((0, setting(applications))),
         };
         let mut recorder = Recorder::blank();
         for port in 1..=PORTS as u8 {
@@ -36,7 +36,7 @@ fn main() {
         println!("a frame of {length} octets");
         let frame = &mut octets[..length];
         time("read", |_| {
-            black_box(layout::read(black_box(frame)).unwrap());
+            black_box(layout::read(black_box(frame), Revision::R1_01).unwrap());
         });
         time("handle, the same frame", |i| {
             black_box(recorder.frame(port(i), black_box(frame)).unwrap());

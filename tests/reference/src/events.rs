@@ -13,11 +13,12 @@ use crate::log::Notice;
 use crate::outcome::Reason;
 use crate::port::{Flag, Port};
 use crate::recorder::{Recorder, PORTS};
+use crate::revision::Revision;
 use crate::rng::XorShift;
 use crate::settings::{Setting, Settings};
 
 /// A feature's setting with octets of its own.
-#[derive(Clone, Debug, PartialEq, Eq)]
+#[derive(Clone, Debug, Default, PartialEq, Eq)]
 pub struct OwnedSetting {
     pub advertise: bool,
     pub enable: bool,
@@ -37,9 +38,10 @@ impl OwnedSetting {
 }
 
 /// A port's settings with octets of their own: the highest version and the
-/// setting of features 2, 3 and 4.
+/// setting of features 2, 3 and 4. The last is not lent under Rev 1.0.
 #[derive(Clone, Debug, PartialEq, Eq)]
 pub struct OwnedSettings {
+    pub revision: Revision,
     pub control_max: u8,
     pub feature: [(u8, OwnedSetting); 3],
 }
@@ -51,7 +53,10 @@ impl OwnedSettings {
             control_max: self.control_max,
             groups: (groups.0, groups.1.lend()),
             flow: (flow.0, flow.1.lend()),
-            applications: (applications.0, applications.1.lend()),
+            applications: match self.revision {
+                Revision::R1_0 => None,
+                Revision::R1_01 => Some((applications.0, applications.1.lend())),
+            },
         }
     }
 }
@@ -420,9 +425,19 @@ pub mod random {
         }
     }
 
+    /// About a third are 1.0.
+    fn revision(rng: &mut XorShift) -> Revision {
+        if rng.percent(33) {
+            Revision::R1_0
+        } else {
+            Revision::R1_01
+        }
+    }
+
     /// A port's settings, all valid.
     pub fn settings(rng: &mut XorShift) -> OwnedSettings {
         OwnedSettings {
+            revision: revision(rng),
             control_max: version(rng),
             feature: [PRIORITY_GROUPS, FLOW_CONTROL, APPLICATIONS].map(|feature| {
                 let parameters = valid(rng, feature, true);
@@ -435,6 +450,7 @@ pub mod random {
     pub fn settings_near(rng: &mut XorShift, like: &OwnedSettings) -> OwnedSettings {
         let mut feature = PRIORITY_GROUPS;
         OwnedSettings {
+            revision: if rng.percent(50) { like.revision } else { revision(rng) },
             control_max: if rng.percent(60) { like.control_max } else { version(rng) },
             feature: like.feature.clone().map(|(max, theirs)| {
                 let parameters = near(rng, feature, &theirs.parameters, true);

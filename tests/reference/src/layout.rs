@@ -1,6 +1,7 @@
 //! TLV layout: reading a frame, the three kinds of parameters, and their octets.
 
 use crate::refusal::{self, Refusal};
+use crate::revision::Revision;
 
 /// TLV type of an organisation's own TLV.
 pub const TLV_TYPE: u8 = 127;
@@ -126,8 +127,9 @@ pub struct Frame<'a> {
     pub applications: Found<'a>,
 }
 
-/// Reads a whole frame, or gives the lowest of refusals 3 to 8 with its place.
-pub fn read(octets: &[u8]) -> Result<Frame<'_>, Refusal> {
+/// Reads a whole frame as a revision does, or gives the lowest of refusals 3 to 8
+/// with its place. A feature that the revision does not know is absent.
+pub fn read(octets: &[u8], revision: Revision) -> Result<Frame<'_>, Refusal> {
     let mut sub_tlvs = SubTlvs::of(octets)?;
     // Counted by type; the first counts nothing.
     let mut found = [Found::Absent; 5];
@@ -139,8 +141,7 @@ pub fn read(octets: &[u8]) -> Result<Frame<'_>, Refusal> {
         let counts = match kind {
             CONTROL => true,
             // A SubType other than 0 makes it another feature.
-            PRIORITY_GROUPS..=APPLICATIONS => body.len() < FEATURE_HEAD || body[3] == 0,
-            _ => false,
+            _ => revision.features().contains(&kind) && (body.len() < FEATURE_HEAD || body[3] == 0),
         };
         if counts {
             let times = &mut found[usize::from(kind)];
@@ -173,9 +174,10 @@ pub fn read(octets: &[u8]) -> Result<Frame<'_>, Refusal> {
     Ok(Frame { controls, groups, flow, applications })
 }
 
-/// Number and place of the refusal from 3 to 8; both 0 where none applies.
+/// Number and place of the refusal from 3 to 8; both 0 where none applies. They are
+/// the same for both revisions, which differ in features alone.
 pub fn judge(octets: &[u8]) -> (u8, usize) {
-    match read(octets) {
+    match read(octets, Revision::R1_01) {
         Ok(_) => (0, 0),
         Err(Refusal { number, place }) => (number, place.into()),
     }
@@ -186,7 +188,7 @@ pub fn judge(octets: &[u8]) -> (u8, usize) {
 pub trait Parameters: Copy + PartialEq {
     /// Feature number, also the type of the sub-TLV.
     const FEATURE: u8;
-    /// What a port that was not made has: a setting that asks for nothing.
+    /// What a setting that asks for nothing has.
     const NONE: Self;
     /// None for a wrong length or invalid values.
     fn read(octets: &[u8]) -> Option<Self>;

@@ -1,5 +1,5 @@
-//! A reference engine for four DCBX 1.01 ports with one log, written from
-//! documents 01 and 02 alone.
+//! A reference engine for four DCBX ports with one log, each of Rev 1.0 or 1.01,
+//! written from documents 01 and 02 alone.
 //!
 //! The modules follow the sections of document 01. The engine works in place
 //! and allocates nothing; only `dump`, `View`, the event generator and the text
@@ -14,6 +14,7 @@ pub mod port;
 pub mod program;
 pub mod recorder;
 pub mod refusal;
+pub mod revision;
 pub mod rng;
 pub mod rounds;
 pub mod settings;
@@ -29,5 +30,6 @@ pub use outcome::{Feature, Peer, Reason};
 pub use port::{ControlState, Flag, Flags, Port};
 pub use recorder::{Recorder, PORTS};
 pub use refusal::Refusal;
+pub use revision::Revision;
 pub use settings::{FeatureSetting, Setting, Settings};
 pub use why::Why;

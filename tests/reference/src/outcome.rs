@@ -76,7 +76,7 @@ pub(crate) type Shown = Option<(u8, bool)>;
 
 impl<P: Parameters> Feature<P> {
     /// The fresh state, stopped.
-    pub(crate) fn new(max: u8, setting: FeatureSetting<P>) -> Self {
+    pub(crate) fn new((max, setting): (u8, FeatureSetting<P>)) -> Self {
         let mut feature = Feature {
             setting,
             max,

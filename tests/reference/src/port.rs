@@ -1,12 +1,13 @@
 //! Port events and handling a frame.
 
 use crate::layout::{
-    self, Applications, Controls, FlowControl, Frame, Groups, Parameters, ReceivedControl,
-    APPLICATIONS, CONTROL, CONTROL_LENGTH, FLOW_CONTROL, OUI, PRIORITY_GROUPS, SUBTYPE, TLV_TYPE,
+    self, Applications, Controls, FlowControl, Frame, Groups, Parameters, ReceivedControl, CONTROL,
+    CONTROL_LENGTH, FLOW_CONTROL, OUI, PRIORITY_GROUPS, SUBTYPE, TLV_TYPE,
 };
 use crate::log::{self, Writer};
 use crate::outcome::{Feature, Reason, Shown};
 use crate::refusal::{self, Refusal};
+use crate::revision::Revision;
 use crate::settings::{FeatureSetting, Setting, Settings};
 
 /// The control machine.
@@ -63,6 +64,7 @@ impl Flag {
 /// One port. Its notices go into the log that it is lent.
 #[derive(Clone, Debug)]
 pub struct Port {
+    revision: Revision,
     control: ControlState,
     flags: Flags,
     groups: Feature<Groups>,
@@ -84,6 +86,7 @@ impl Port {
     /// A port that was not made yet: stopped, all flags off, nothing set.
     pub(crate) fn blank() -> Self {
         Port {
+            revision: Revision::R1_01,
             control: ControlState::fresh(0),
             flags: Flags {
                 enabled: false,
@@ -91,16 +94,16 @@ impl Port {
                 transmit: false,
                 several_neighbours: false,
             },
-            groups: Feature::new(0, FeatureSetting::none()),
-            flow: Feature::new(0, FeatureSetting::none()),
-            applications: Feature::new(0, FeatureSetting::none()),
+            groups: Feature::new((0, FeatureSetting::none())),
+            flow: Feature::new((0, FeatureSetting::none())),
+            applications: Feature::new((0, FeatureSetting::none())),
         }
     }
 
     /// A running port in its fresh state.
     pub(crate) fn create(settings: &Settings) -> Result<Self, u8> {
-        let read = settings.read()?;
         let mut port = Port {
+            revision: settings.revision(),
             control: ControlState::fresh(settings.control_max),
             flags: Flags {
                 enabled: true,
@@ -108,9 +111,9 @@ impl Port {
                 transmit: true,
                 several_neighbours: false,
             },
-            groups: Feature::new(settings.groups.0, read.groups),
-            flow: Feature::new(settings.flow.0, read.flow),
-            applications: Feature::new(settings.applications.0, read.applications),
+            groups: Feature::new(settings.groups()?),
+            flow: Feature::new(settings.flow()?),
+            applications: Feature::new(settings.applications()?),
         };
         port.fresh();
         Ok(port)
@@ -137,7 +140,7 @@ impl Port {
         if self.flags.several_neighbours {
             return Err(refusal::SEVERAL_NEIGHBOURS.into());
         }
-        let frame = layout::read(octets)?;
+        let frame = layout::read(octets, self.revision)?;
         let before = self.written();
         let reasons = self.reasons();
         match &frame.controls {
@@ -195,14 +198,16 @@ impl Port {
         setting: &Setting,
         log: &mut Writer,
     ) -> Result<bool, u8> {
+        if !self.revision.features().contains(&feature) {
+            return Err(refusal::NO_SUCH_FEATURE);
+        }
         let running = self.running();
         let reasons = self.reasons();
         let seqno = self.control.seqno;
         let changed = match feature {
             PRIORITY_GROUPS => change_one(&mut self.groups, setting, running, seqno)?,
             FLOW_CONTROL => change_one(&mut self.flow, setting, running, seqno)?,
-            APPLICATIONS => change_one(&mut self.applications, setting, running, seqno)?,
-            _ => return Err(refusal::NO_SUCH_FEATURE),
+            _ => change_one(&mut self.applications, setting, running, seqno)?,
         };
         let Some(wish) = changed else {
             return Ok(false);
@@ -245,6 +250,10 @@ impl Port {
 
     pub fn running(&self) -> bool {
         self.flags.enabled && self.flags.receive && self.flags.transmit
+    }
+
+    pub fn revision(&self) -> Revision {
+        self.revision
     }
 
     pub fn control(&self) -> &ControlState {

@@ -20,7 +20,7 @@ pub const CONTROL_VERSIONS: u8 = 8;
 pub const INVALID_SETTING: u8 = 9;
 /// Lent output shorter than the frame.
 pub const SHORT_OUTPUT: u8 = 10;
-/// Feature number not 2, 3 or 4.
+/// Feature number not 2, 3 or 4; under Rev 1.0, not 2 or 3.
 pub const NO_SUCH_FEATURE: u8 = 11;
 /// Taking a notice when the port holds none.
 pub const NO_NOTICE: u8 = 12;

@@ -2,6 +2,7 @@
 
 use crate::layout::{Applications, FlowControl, Groups, Parameters};
 use crate::refusal;
+use crate::revision::Revision;
 
 /// One feature's setting as the caller gives it. The parameters are the octets
 /// behind the first four of the feature's sub-TLV.
@@ -14,12 +15,13 @@ pub struct Setting<'a> {
 }
 
 /// All settings of a port: the highest versions, and a setting for each feature.
+/// One without applications is of Rev 1.0.
 #[derive(Clone, Copy, Debug, PartialEq, Eq)]
 pub struct Settings<'a> {
     pub control_max: u8,
     pub groups: (u8, Setting<'a>),
     pub flow: (u8, Setting<'a>),
-    pub applications: (u8, Setting<'a>),
+    pub applications: Option<(u8, Setting<'a>)>,
 }
 
 /// One feature's setting as the port holds it. The parameters are DesiredCfg.
@@ -32,7 +34,7 @@ pub struct FeatureSetting<P> {
 }
 
 impl<P: Parameters> FeatureSetting<P> {
-    /// What a port that was not made has.
+    /// What a port that was not made has, and one of Rev 1.0 for applications.
     pub(crate) fn none() -> Self {
         FeatureSetting { advertise: false, enable: false, willing: false, parameters: P::NONE }
     }
@@ -53,19 +55,31 @@ impl<P: Parameters> FeatureSetting<P> {
     }
 }
 
-/// The three features' settings, read.
-pub(crate) struct Read {
-    pub groups: FeatureSetting<Groups>,
-    pub flow: FeatureSetting<FlowControl>,
-    pub applications: FeatureSetting<Applications>,
+/// A feature's highest version and its setting, read.
+type Read<P> = (u8, FeatureSetting<P>);
+
+fn read<P: Parameters>((max, setting): &(u8, Setting)) -> Result<Read<P>, u8> {
+    Ok((*max, FeatureSetting::read(setting)?))
 }
 
 impl Settings<'_> {
-    pub(crate) fn read(&self) -> Result<Read, u8> {
-        Ok(Read {
-            groups: FeatureSetting::read(&self.groups.1)?,
-            flow: FeatureSetting::read(&self.flow.1)?,
-            applications: FeatureSetting::read(&self.applications.1)?,
-        })
+    pub fn revision(&self) -> Revision {
+        match self.applications {
+            None => Revision::R1_0,
+            Some(_) => Revision::R1_01,
+        }
+    }
+
+    pub(crate) fn groups(&self) -> Result<Read<Groups>, u8> {
+        read(&self.groups)
+    }
+
+    pub(crate) fn flow(&self) -> Result<Read<FlowControl>, u8> {
+        read(&self.flow)
+    }
+
+    /// What Rev 1.0 holds of them asks for nothing.
+    pub(crate) fn applications(&self) -> Result<Read<Applications>, u8> {
+        self.applications.as_ref().map_or(Ok((0, FeatureSetting::none())), read)
     }
 }

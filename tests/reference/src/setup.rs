@@ -1,7 +1,6 @@
 //! The settings at the start of an input (docs/FORMATS.md).
 
-use crate::events::OwnedSettings;
-use crate::layout::{APPLICATIONS, PRIORITY_GROUPS};
+use crate::events::{OwnedSetting, OwnedSettings};
 use crate::recorder::PORTS;
 use crate::refusal;
 use crate::text::{self, Fault, Lines, Text};
@@ -67,7 +66,7 @@ pub struct PortSettings {
     pub settings: OwnedSettings,
 }
 
-/// Four lines that can be read.
+/// The lines of one port, which can be read.
 struct OnePort {
     read: PortSettings,
     /// The first line that is refused.
@@ -107,7 +106,7 @@ pub fn ports<R: Read, W: Write>(
 }
 
 /// Whether the next line, which stays the next, is one of settings: if nothing else may stand behind them,
-/// every line is.
+/// every line is. One of applications is too, so that it is not taken for an event behind a 1.0 port.
 fn begins_settings<R: Read, W: Write>(
     lines: &mut Lines<R, W>,
     behind: Behind,
@@ -116,36 +115,35 @@ fn begins_settings<R: Read, W: Write>(
     let Some((_, line)) = lines.next(out)? else {
         return Ok(false);
     };
-    let control = Line::with_port(line).words().next_word() == Some(b"control");
+    let first = Line::with_port(line).words().next_word();
+    let settings = matches!(first, Some(b"control" | b"applications"));
     lines.put_back();
-    Ok(control || behind == Behind::Nothing)
+    Ok(settings || behind == Behind::Nothing)
 }
 
-/// Four lines of one port, which none of the earlier ones is.
+/// The lines of one port, which none of the earlier ones is: four, or three of Rev 1.0.
 fn one_port<R: Read, W: Write>(
     lines: &mut Lines<R, W>,
     out: &mut Text,
     split: Split,
     earlier: &[OnePort],
 ) -> Result<OnePort, Failure> {
-    let (named, control_max) = due(lines, out, "control", |line| {
+    let (named, control_max, revision) = due(lines, out, "control", |line| {
         let line = split(line);
         let mut words = line.words();
         words.word("control")?;
         if earlier.iter().any(|one| one.read.port == number(line)) {
             return Err(Unread::Word(1, Due::AnotherPort));
         }
-        let max = words.max()?;
-        words.end()?;
-        Ok((line.port, max))
+        Ok((line.port, words.max()?, words.revision()?))
     })?;
     let port = named.unwrap_or(1);
     let mut refused = None;
     if !(1..=PORTS as u8).contains(&port) {
         refused = Some(BadSettings { line: lines.count, bad: Bad::NoPort });
     }
-    let mut features = Vec::new();
-    for feature in PRIORITY_GROUPS..=APPLICATIONS {
+    let mut features = <[(u8, OwnedSetting); 3]>::default();
+    for (place, feature) in features.iter_mut().zip(revision.features()) {
         let name = text::place_name(feature);
         let (max, setting) = due(lines, out, name, |line| {
             let line = split(line);
@@ -159,10 +157,9 @@ fn one_port<R: Read, W: Write>(
         if let Some(why) = why(feature, &setting.parameters) {
             refused.get_or_insert(BadSettings { line: lines.count, bad: Bad::Invalid(why) });
         }
-        features.push((max, setting));
+        *place = (max, setting);
     }
-    let feature = features.try_into().expect("three features");
-    let settings = OwnedSettings { control_max, feature };
+    let settings = OwnedSettings { revision, control_max, feature: features };
     Ok(OnePort { read: PortSettings { port, named: named.is_some(), settings }, refused })
 }
 

@@ -2,7 +2,9 @@
 
 use crate::layout::{APPLICATIONS, FLOW_CONTROL, PRIORITY_GROUPS};
 use crate::outcome::Reason;
-use crate::{refusal, Applications, Feature, FlowControl, Groups, Notice, Parameters};
+use crate::{
+    refusal, Applications, Feature, FlowControl, Groups, Notice, Parameters, Port, Revision,
+};
 use std::fmt::Display;
 use std::io::{ErrorKind, Read, Write};
 use std::ops::Range;
@@ -150,6 +152,19 @@ impl Text {
             self.put(" none");
         }
         self
+    }
+
+    /// ` revision 1.0` of such a port, and nothing of another.
+    pub fn revision(&mut self, port: &Port) -> &mut Self {
+        match port.revision() {
+            Revision::R1_0 => self.put(" revision ").put(Revision::R1_0.name()),
+            Revision::R1_01 => self,
+        }
+    }
+
+    /// The line of settings that a control has, without its line feed.
+    pub fn control_line(&mut self, port: &Port) -> &mut Self {
+        self.put("control").field("max", port.control().max).revision(port)
     }
 
     /// The line of settings that a feature has, without its line feed.

@@ -2,6 +2,7 @@
 
 use crate::events::OwnedSetting;
 use crate::layout::{APPLICATIONS, FLOW_CONTROL, MOST_ENTRIES, OUI, PRIORITY_GROUPS};
+use crate::revision::Revision;
 use crate::text::{place_name, SELECTORS};
 use std::fmt;
 
@@ -23,6 +24,7 @@ pub enum Due {
     Frame,
     Port(u8),
     AnotherPort,
+    Revision,
     End,
 }
 
@@ -41,6 +43,7 @@ impl fmt::Display for Due {
             Due::Frame => write!(f, "a frame is due"),
             Due::Port(port) => write!(f, "port {port} is due"),
             Due::AnotherPort => write!(f, "another port is due"),
+            Due::Revision => write!(f, "1.0 or 1.01 is due"),
             Due::End => write!(f, "the end of the line is due"),
         }
     }
@@ -200,6 +203,21 @@ impl<'a> Words<'a> {
     pub fn max(&mut self) -> Result<u8, Unread> {
         self.word("max")?;
         self.small(255)
+    }
+
+    /// Nothing, which is 1.01, or `revision R`, to the end of the line.
+    pub fn revision(&mut self) -> Result<Revision, Unread> {
+        if self.is_empty() {
+            return Ok(Revision::R1_01);
+        }
+        self.word("revision")?;
+        let revision = self.read(Due::Revision, |word| {
+            [Revision::R1_0, Revision::R1_01]
+                .into_iter()
+                .find(|revision| word == revision.name().as_bytes())
+        })?;
+        self.end()?;
+        Ok(revision)
     }
 
     /// `advertise B enable B willing B`.

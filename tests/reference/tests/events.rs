@@ -4,8 +4,8 @@
 mod common;
 use common::*;
 use reference::events::{Answer, Call, Event, Generator, FILL};
-use reference::layout::{judge, Controls, Found};
-use reference::{Log, Notice, Port, Reason, Recorder, Setting};
+use reference::layout::{self, judge, Controls, Found};
+use reference::{Log, Notice, Port, Reason, Recorder, Revision, Setting};
 use std::collections::BTreeMap;
 
 /// The notices due by the flags, marks and reasons before and after.
@@ -64,7 +64,7 @@ fn happened(event: &Event, before: &Port, after: &Port, mut count: impl FnMut(&'
             }
         }
         Event::Frame(octets) => {
-            let received = reference::layout::read(octets).unwrap();
+            let received = layout::read(octets, before.revision()).unwrap();
             let (was, is) = (before.control(), after.control());
             match received.controls {
                 Controls::Several if was.duplicate_control => count("frame: control twice again"),
@@ -96,6 +96,9 @@ fn happened(event: &Event, before: &Port, after: &Port, mut count: impl FnMut(&'
                 if is.advertise && !is.syncd && is.featureseqno != after.control().seqno {
                     count("frame: change still waits");
                 }
+            }
+            if received != layout::read(octets, Revision::R1_01).unwrap() {
+                count("frame: applications skipped under 1.0");
             }
             if after.applications().opercfg.entries().len() == 16 {
                 count("frame: 16 entries in OperCfg");
@@ -250,7 +253,7 @@ impl Counts {
                 if answer.refusal == 0 {
                     assert_eq!(ours, written_at(after, call.port).unwrap());
                     // What is written can be read.
-                    assert!(reference::layout::read(ours).is_ok());
+                    assert!(layout::read(ours, is.revision()).is_ok());
                 } else {
                     assert_eq!(answer.length, 0);
                 }
@@ -366,8 +369,8 @@ fn all_occur_and_all_is_kept() {
     // The six kinds of writer, and ties.
     assert_eq!(counts.drops.len(), 7);
     assert!(counts.drops.values().all(|&count| count > 100));
-    // Ten kinds of change, seventeen of frame, and synced.
-    assert_eq!(counts.rare.len(), 28);
+    // Ten kinds of change, eighteen of frame, and synced.
+    assert_eq!(counts.rare.len(), 29);
     assert!(counts.rare.values().all(|&count| count > 100));
 }
 

@@ -101,7 +101,7 @@ fn each_way_to_the_fresh_state() {
     port.change(3, true, true, false, &[0x10, 8]).unwrap();
     let mut before = port.dump();
     assert!(!port.set_flag(Flag::SeveralNeighbours, false));
-    before[20] = 0;
+    before[21] = 0;
     assert_eq!(port.dump(), before);
     // A fresh port flagged and cleared asks for nothing.
     let mut port = w2_port();

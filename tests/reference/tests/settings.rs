@@ -7,7 +7,7 @@ use reference::setup::{self, Bad, Behind, Failure, PortSettings};
 use reference::text::{Lines, Text};
 use reference::why::why;
 use reference::words::Unread;
-use reference::{refusal, Port, Recorder, Setting};
+use reference::{refusal, Port, Recorder, Revision, Setting};
 
 /// Whether a recorder refuses such a setting with 9.
 fn refused(feature: u8, parameters: &[u8]) -> bool {
@@ -41,13 +41,15 @@ fn all_of_flow_control_has_its_reason() {
     }
 }
 
-/// The four lines that `show` has of a port.
+/// The lines of settings that `show` has of a port: four, or three of Rev 1.0.
 fn lines(port: &Port) -> Vec<u8> {
     let mut text = Text::default();
-    text.put("control").field("max", port.control().max).put("\n");
+    text.control_line(port).put("\n");
     text.settings_line(port.groups()).put("\n");
     text.settings_line(port.flow()).put("\n");
-    text.settings_line(port.applications()).put("\n");
+    if port.revision() == Revision::R1_01 {
+        text.settings_line(port.applications()).put("\n");
+    }
     text.0
 }
 
@@ -56,7 +58,7 @@ fn read(lines: &[u8]) -> Result<Vec<PortSettings>, Failure> {
     setup::ports(&mut lines, Behind::Nothing, &mut Text::default())
 }
 
-/// A port's four lines of random settings.
+/// A port's lines of random settings.
 fn random_lines(rng: &mut XorShift) -> (OwnedSettings, Vec<u8>) {
     let settings = random::settings(rng);
     let mut recorder = Recorder::blank();
@@ -72,7 +74,8 @@ fn settings_as_shown_are_settings() {
         let (settings, lines) = random_lines(&mut rng);
         let ports = read(&lines).expect("settings");
         assert_eq!(ports.len(), 1);
-        assert_eq!(ports[0].settings, settings, "{}", String::from_utf8_lossy(&lines));
+        let read = ports[0].settings.lend();
+        assert_eq!(read, settings.lend(), "{}", String::from_utf8_lossy(&lines));
     }
 }
 

@@ -13,11 +13,11 @@ returns c = search admit-stopped
 returns-2 : tie.Need-returns-2
 returns-2 c = search admit-several
 
-read-requires : tie.Need-read-requires
-read-requires c κs = search needs
+read-for-requires : tie.Need-read-for-requires
+read-for-requires c κs = search needs
 
 returns-3 : tie.Need-returns-3
 returns-3 c = search admit-read
 
 pub admit-spec : {M : Type 1} → statement M
-admit-spec = tie.close (tie.spec running-requires returns returns-2 read-requires returns-3)
+admit-spec = tie.close (tie.spec running-requires returns returns-2 read-for-requires returns-3)

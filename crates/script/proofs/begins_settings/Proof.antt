@@ -13,8 +13,8 @@ behind-requires c κs = search needs
 word-requires : tie.Need-word-requires
 word-requires c κs = search needs
 
-is-name-requires : tie.Need-is-name-requires
-is-name-requires c κs = search needs
+is-settings-word-requires : tie.Need-is-settings-word-requires
+is-settings-word-requires c κs = search needs
 
 returns : tie.Need-returns
 returns c = search begins-given
@@ -22,8 +22,8 @@ returns c = search begins-given
 word-requires-2 : tie.Need-word-requires-2
 word-requires-2 c κs = search needs
 
-is-name-requires-2 : tie.Need-is-name-requires-2
-is-name-requires-2 c κs = search needs
+is-settings-word-requires-2 : tie.Need-is-settings-word-requires-2
+is-settings-word-requires-2 c κs = search needs
 
 returns-2 : tie.Need-returns-2
 returns-2 c = search begins-none
@@ -35,8 +35,8 @@ begins-settings-spec =
     port-of-requires
     behind-requires
     word-requires
-    is-name-requires
+    is-settings-word-requires
     returns
     word-requires-2
-    is-name-requires-2
+    is-settings-word-requires-2
     returns-2)

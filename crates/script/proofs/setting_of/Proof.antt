@@ -7,8 +7,8 @@ use Rattle.script.proofs.setting_of.Tie as tie
 enum-told : tie.Need-enum-told
 enum-told c = search needs
 
-alone-requires : tie.Need-alone-requires
-alone-requires c κs = search needs
+control-of-requires : tie.Need-control-of-requires
+control-of-requires c κs = search needs
 
 enum-told-2 : tie.Need-enum-told-2
 enum-told-2 c = search needs
@@ -45,7 +45,7 @@ setting-of-spec =
     tie.close
     (tie.spec
     enum-told
-    alone-requires
+    control-of-requires
     enum-told-2
     feature-requires
     enum-told-3

@@ -7,7 +7,7 @@
 use compare::{engine, script};
 use reference::events::{OwnedSetting, OwnedSettings};
 use reference::layout::{self, Found, LONGEST_FRAME};
-use reference::{Recorder, PORTS};
+use reference::{Recorder, Revision, PORTS};
 use std::hint::black_box;
 use std::io::Write;
 use std::path::Path;
@@ -27,6 +27,7 @@ fn settings(applications: u8) -> OwnedSettings {
         |parameters| OwnedSetting { advertise: true, enable: true, willing: false, parameters };
     let entries = (0..applications).flat_map(|i| [0x89, 0x06 + i, 0, 0x1b, 0x21, 8]).collect();
     OwnedSettings {
+        revision: Revision::R1_01,
         control_max: 0,
         feature: [
             (0, setting(vec![0, 1, 0, 0, 50, 50, 0, 0, 0, 0, 0, 0, 2])),
@@ -90,7 +91,7 @@ fn read_many(frames: &[u8], size: usize, times: usize) -> u64 {
             Found::Once(body) => body.as_ptr() as u64 - frame.as_ptr() as u64 + body.len() as u64,
             _ => 0,
         };
-        let seen = match layout::read(frame) {
+        let seen = match layout::read(frame, Revision::R1_01) {
             Ok(read) => place(read.groups) + place(read.flow) + place(read.applications),
             Err(refusal) => refusal.number.into(),
         };

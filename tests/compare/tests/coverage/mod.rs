@@ -2,7 +2,9 @@
 
 use compare::{Step, What};
 use reference::events::{Answer, Event};
-use reference::{Log, Notice, Port, Reason, Recorder};
+use reference::layout::{self, Found, APPLICATIONS};
+use reference::why::why;
+use reference::{Log, Notice, Port, Reason, Recorder, Revision};
 
 /// How often what has occurred.
 #[derive(Debug, Default)]
@@ -15,6 +17,7 @@ pub struct Coverage {
     became: [[u32; 10]; 3],
     notices: [u32; 11],
     broken_controls: BrokenControls,
+    old_ports: OldPorts,
     dropped_by: DroppedBy,
     /// A dropped count that stayed at its end, by port.
     dropped_stayed: [u32; 4],
@@ -60,6 +63,50 @@ impl BrokenControls {
             [self.dropped_one, self.cleared_by_frame, self.cleared_by_fresh_state, self.left];
         let all = [&self.raised[..], &self.kept_back, &self.cleared_by_refusal, &rest];
         all.concat().iter().all(|&count| count > 0)
+    }
+}
+
+/// What occurred at ports of Rev 1.0.
+#[derive(Debug, Default)]
+struct OldPorts {
+    created: u32,
+    /// Of these, beside applications that 1.01 would refuse.
+    created_beside_invalid: u32,
+    /// A frame was taken with applications that 1.01 would count.
+    type_4_skipped: u32,
+    /// 11 for a setting of type 4 that is valid, and for one that is not.
+    type_4_refused: [u32; 2],
+}
+
+impl OldPorts {
+    fn note(&mut self, event: &Event, refusal: u8, after: &Port) {
+        if after.revision() != Revision::R1_0 {
+            return;
+        }
+        match event {
+            Event::Create(settings) if refusal == 0 => {
+                let invalid = why(APPLICATIONS, &settings.feature[2].1.parameters).is_some();
+                self.created += 1;
+                self.created_beside_invalid += u32::from(invalid);
+            }
+            Event::Frame(octets) if refusal == 0 => {
+                let skipped = layout::read(octets, Revision::R1_01)
+                    .is_ok_and(|frame| frame.applications != Found::Absent);
+                self.type_4_skipped += u32::from(skipped);
+            }
+            Event::Change { feature: APPLICATIONS, setting } if refusal == 11 => {
+                let invalid = why(APPLICATIONS, &setting.parameters).is_some();
+                self.type_4_refused[usize::from(invalid)] += 1;
+            }
+            _ => {}
+        }
+    }
+
+    fn all_occurred(&self) -> bool {
+        let [valid, invalid] = self.type_4_refused;
+        [self.created, self.created_beside_invalid, self.type_4_skipped, valid, invalid]
+            .iter()
+            .all(|&count| count > 0)
     }
 }
 
@@ -116,6 +163,7 @@ impl Coverage {
         {
             self.note_port(was, is);
             self.broken_controls.note(event, answer.refusal, was, is);
+            self.old_ports.note(event, answer.refusal, is);
             self.note_log(before.log(), &answer.raised);
         }
     }
@@ -167,6 +215,7 @@ impl Coverage {
         assert!(self.places.as_flattened().iter().all(|&count| count > 0), "{self:#?}");
         assert!(self.notices[1..].iter().all(|&count| count > 0), "{self:#?}");
         assert!(self.broken_controls.all_occurred(), "{self:#?}");
+        assert!(self.old_ports.all_occurred(), "{self:#?}");
         for reason in Reason::ALL {
             let each = self.became.map(|counts| counts[reason as usize]);
             assert!(each.iter().all(|&count| count > 0), "{reason:?} {self:#?}");

@@ -5,7 +5,7 @@ use reference::setup::{self, Behind, Failure, PortSettings};
 use reference::text::{self, Fault, InWords, Lines, Text};
 use reference::why::{why, Why};
 use reference::words::{self, By, Due, Line, Switches, Unread, Words};
-use reference::{refusal, Feature, Flag, Log, Port, Recorder, Refusal, Setting};
+use reference::{refusal, Feature, Flag, Log, Port, Recorder, Refusal, Revision, Setting};
 
 /// The most octets of a frame, of parameters and of an output that a line names.
 const FRAME: usize = 513;
@@ -270,7 +270,7 @@ fn show<'a>(number: u8, port: &Port, log: &Log, out: &'a mut Text) -> &'a mut Te
     out.field("receive", flags.receive);
     out.field("transmit", flags.transmit);
     out.field("several", flags.several_neighbours);
-    out.put("\ncontrol").field("max", control.max);
+    out.put("\n").control_line(port);
     out.put("\ncontrol state").field("oper", control.oper);
     out.field("seqno", control.seqno);
     out.field("ackno", control.ackno);
@@ -280,7 +280,9 @@ fn show<'a>(number: u8, port: &Port, log: &Log, out: &'a mut Text) -> &'a mut Te
     out.field("broken", control.broken_control).put("\n");
     show_feature(port.groups(), out);
     show_feature(port.flow(), out);
-    show_feature(port.applications(), out);
+    if port.revision() == Revision::R1_01 {
+        show_feature(port.applications(), out);
+    }
     out.put("log").field("held", log.held(number) as u32);
     out.field("dropped", log.dropped(number)).put("\n");
     for notice in log.of(number) {

@@ -6,7 +6,7 @@ use reference::program::{self, Source};
 use reference::rounds::{settled, Ends};
 use reference::setup::{self, Failure};
 use reference::text::{self, Fault, InWords, Lines, Text};
-use reference::{Feature, Log, Parameters, Port, Recorder};
+use reference::{Feature, Log, Parameters, Port, Recorder, Revision};
 
 /// Rounds that are always enough.
 const ENOUGH: u32 = 5;
@@ -43,10 +43,12 @@ fn report_feature<P: InWords>(end: &str, feature: &Feature<P>, out: &mut Text) {
 
 fn report_end(end: &str, port: &Port, log: &Log, out: &mut Text) {
     out.put(end).put(" control");
-    out.field("version", port.control().oper).put("\n");
+    out.field("version", port.control().oper).revision(port).put("\n");
     report_feature(end, port.groups(), out);
     report_feature(end, port.flow(), out);
-    report_feature(end, port.applications(), out);
+    if port.revision() == Revision::R1_01 {
+        report_feature(end, port.applications(), out);
+    }
     for notice in log.of(PORT) {
         out.put(end).put(" ").notice(notice);
     }
@@ -75,10 +77,15 @@ fn fits(ends: &Ends, feature: u8) -> bool {
     }
 }
 
+/// Whether an end has this feature at all.
+fn known(ends: &Ends, feature: u8) -> bool {
+    ends.ends().iter().any(|port| port.revision().features().contains(&feature))
+}
+
 /// Agreed, not agreed or not exchanged, and which features are not.
 fn first_line(ends: &Ends, rounds: u32, out: &mut Text) {
     let (mut not_agreed, mut not_exchanged) = (Vec::new(), Vec::new());
-    for feature in PRIORITY_GROUPS..=APPLICATIONS {
+    for feature in (PRIORITY_GROUPS..=APPLICATIONS).filter(|&feature| known(ends, feature)) {
         let name = text::place_name(feature);
         if let Some(silent) = silent(ends, feature) {
             let fits = if fits(ends, feature) { "fits" } else { "does not fit" };

@@ -4,7 +4,7 @@
 use reference::events::{assemble, Answer, Call, Event, OwnedSetting, OwnedSettings, FILL};
 use reference::layout::LONGEST_FRAME;
 use reference::rounds::Ends;
-use reference::{Flag, Log, Notice, Port, Reason, Recorder, Refusal, Setting};
+use reference::{Flag, Log, Notice, Port, Reason, Recorder, Refusal, Revision, Setting};
 use std::ops::Deref;
 
 pub fn hex(text: &str) -> Vec<u8> {
@@ -61,9 +61,15 @@ pub fn w2_settings() -> OwnedSettings {
         parameters: parameters.to_vec(),
     };
     OwnedSettings {
+        revision: Revision::R1_01,
         control_max: 0,
         feature: [(0, setting(&GROUPS)), (0, setting(&FLOW)), (0, setting(&APPLICATIONS))],
     }
+}
+
+/// The same for Rev 1.0, which has no applications.
+pub fn old_settings() -> OwnedSettings {
+    OwnedSettings { revision: Revision::R1_0, ..w2_settings() }
 }
 
 /// A port of a recorder of its own, so that tests of one port need not name it.
@@ -284,7 +290,7 @@ pub fn marks(recorder: &Recorder) -> [bool; 4] {
 
 /// A port's state without its mark.
 pub fn but_mark(port: &Port) -> Vec<u8> {
-    const MARK: usize = 16;
+    const MARK: usize = 17;
     let mut octets = port.dump();
     octets.remove(MARK);
     octets

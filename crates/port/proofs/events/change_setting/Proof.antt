@@ -1,5 +1,5 @@
 -- `port::events::change_setting` meets its contract. Assumes nothing.
-use Rattle.port.specs.EventLaws.{change-groups, change-flow, change-applications, change-unknown}
+use Rattle.port.specs.EventLaws.{change-groups, change-flow, change-fourth, change-unknown}
 use borrow.Author.Needs.{needs}
 use Rattle.port.proofs.events.change_setting.Statement.{statement}
 use Rattle.port.proofs.events.change_setting.Tie as tie
@@ -16,11 +16,11 @@ change-feature-requires-2 c κs = search needs
 returns-2 : tie.Need-returns-2
 returns-2 c = search change-flow
 
-change-feature-requires-3 : tie.Need-change-feature-requires-3
-change-feature-requires-3 c κs = search needs
+change-applications-requires : tie.Need-change-applications-requires
+change-applications-requires c κs = search needs
 
 returns-3 : tie.Need-returns-3
-returns-3 c = search change-applications
+returns-3 c = search change-fourth
 
 refuse-requires : tie.Need-refuse-requires
 refuse-requires c κs = search needs
@@ -36,7 +36,7 @@ change-setting-spec =
     returns
     change-feature-requires-2
     returns-2
-    change-feature-requires-3
+    change-applications-requires
     returns-3
     refuse-requires
     returns-4)

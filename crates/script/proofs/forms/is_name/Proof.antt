@@ -113,6 +113,15 @@ slice-aggregate-same-octets-12 c = search needs
 same-octets-requires-12 : tie.Need-same-octets-requires-12
 same-octets-requires-12 c κs = search needs
 
+enum-told-13 : tie.Need-enum-told-13
+enum-told-13 c = search needs
+
+slice-aggregate-same-octets-13 : tie.Need-slice-aggregate-same-octets-13
+slice-aggregate-same-octets-13 c = search needs
+
+same-octets-requires-13 : tie.Need-same-octets-requires-13
+same-octets-requires-13 c κs = search needs
+
 returns : tie.Need-returns
 unfolding nameText
 returns c = search name-is
@@ -161,6 +170,10 @@ returns-12 : tie.Need-returns-12
 unfolding nameText
 returns-12 c = search name-is
 
+returns-13 : tie.Need-returns-13
+unfolding nameText
+returns-13 c = search name-is
+
 pub is-name-spec : {M : Type 1} → statement M
 is-name-spec =
     tie.close
@@ -201,6 +214,9 @@ is-name-spec =
     enum-told-12
     slice-aggregate-same-octets-12
     same-octets-requires-12
+    enum-told-13
+    slice-aggregate-same-octets-13
+    same-octets-requires-13
     returns
     returns-2
     returns-3
@@ -212,4 +228,5 @@ is-name-spec =
     returns-9
     returns-10
     returns-11
-    returns-12)
+    returns-12
+    returns-13)

@@ -41,7 +41,7 @@ pub struct Layout {
 impl Layout {
     /// The frame of a port with these settings in this state, and the end of the LLDPDU behind it.
     pub fn of(settings: &OwnedSettings, state: &Told) -> Self {
-        let features = (PRIORITY_GROUPS..).zip(&settings.feature);
+        let features = settings.revision.features().zip(&settings.feature);
         let advertised = features.filter(|(_, (_, setting))| setting.advertise);
         let length = |setting: &OwnedSetting| FEATURE_HEAD + setting.parameters.len();
         let feature_octets = advertised.clone().map(|(_, (_, setting))| 2 + length(setting));

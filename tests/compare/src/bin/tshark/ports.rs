@@ -5,6 +5,7 @@ use compare::{engine, script, words, Step, What};
 use reference::events::{random, Event, OwnedSettings};
 use reference::layout::LONGEST_FRAME;
 use reference::rng::XorShift;
+use reference::Revision;
 use std::collections::HashMap;
 
 /// What a step answered and the state that it left, by the names of `words::named`.
@@ -54,9 +55,10 @@ pub fn write(rng: &mut XorShift, peer: Option<&Written>) -> Written {
     Written { settings, state, frame }
 }
 
-/// A random port with the receiver's highest versions handles a frame.
+/// A random port with the receiver's highest versions, which knows all features, handles a frame.
 pub fn receive(rng: &mut XorShift, receiver: &Receiver, frame: &[u8]) -> Told {
     let mut settings = random::settings(rng);
+    settings.revision = Revision::R1_01;
     settings.control_max = receiver.control_max;
     for ((max, setting), highest) in settings.feature.iter_mut().zip(receiver.feature_max) {
         *max = highest;

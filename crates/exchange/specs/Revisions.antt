@@ -1,0 +1,40 @@
+-- 02, E11: "Demand 3 is shown once with the revision of each end as an input": `Demand3` and `JoinedDemand3` are of ports of any revision, which a
+-- port has from its creation on. Here is what they come to "between unlike ends", and what a 1.0 port writes.
+use Prim.Native.Nat.{ℕ, _≤_}
+use mathlib.Core.Path.{_≡_}
+use mathlib.Core.Bool.{true, false}
+use mathlib.Core.List.{List}
+use lib.ListN.{length}
+use Rattle.tlv.specs.declared.Contents.{Contents}
+use Rattle.tlv.specs.declared.Revision.the-variants.{Rev101, Rev10}
+use Rattle.tlv.specs.declared.Reading.the-variants.{Accepted}
+use Rattle.tlv.specs.Layout.{readFrame}
+use Rattle.parameters.specs.declared.Feature.{Feature}
+use Rattle.parameters.specs.declared.Feature.the-variants.{Groups, Flow, Applications}
+use Rattle.feature.specs.declared.Reason.the-variants.{NoPeerYet, Absent}
+use Rattle.port.specs.declared.Port.{Port}
+use Rattle.port.specs.Parts.{featureOf}
+use Rattle.port.specs.Writing.{frame}
+use Rattle.recorder.specs.declared.Recorder.{Recorder}
+use Rattle.recorder.specs.Recorder.{portAt}
+use Rattle.recorder.specs.Sound.{Reachable}
+use Rattle.exchange.specs.Rounds.{Ends, Round, sideOf, rounds, execAll, Proper, expected}
+use Rattle.exchange.specs.Demand3.{Begun}
+
+-- an end that started as `own`, 1.01, beside one that started as `peer`, 1.0, and whose port is now p: "the 1.01 end reads "absent" for applications if it
+-- advertises them and everything else is as before": what the outcome rules say of the two settings
+pub record BesideOlder (own peer p : Port) : Type 0 where
+  pub absent : own .applications .setting .advertise ≡ true → p .applications .outcome .reason ≡ Absent
+  pub others : (f : Feature) → featureOf p f .outcome ≡ expected f (sideOf own f) (sideOf peer f)
+
+-- five or more rounds between a 1.01 end and a 1.0 end, on either side
+pub record UnlikeEnds (c : Ends) : Type 0 where
+  pub left : c .l .revision ≡ Rev101 → c .r .revision ≡ Rev10 → (rs : List Round) → Proper (rounds rs) c → 5 ≤ length rs
+      → BesideOlder (c .l) (c .r) (execAll (rounds rs) c .l)
+  pub right : c .r .revision ≡ Rev101 → c .l .revision ≡ Rev10 → (rs : List Round) → Proper (rounds rs) c → 5 ≤ length rs
+      → BesideOlder (c .r) (c .l) (execAll (rounds rs) c .r)
+
+-- a 1.0 port, after any list of calls, writes a frame in which a reader of either revision finds no sub-TLV of type 4
+abbrev pub WritesNoApplications : Type 0
+WritesNoApplications =
+    (r : Recorder) → Reachable r → (n : ℕ) → portAt r n .revision ≡ Rev10 → (c : Contents) → readFrame (frame (portAt r n)) ≡ Accepted c → c .applications .count ≡ 0
