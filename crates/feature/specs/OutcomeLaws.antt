@@ -142,11 +142,10 @@ judged-lent f s oper w t {x} {n} {own} ex en eo e =
     let c : own ≡ content (s .desired) = content-of (s .desired) en eo in
     e ∙ (λ i. judgedOn f (ex i) (c i) oper w t)
 
-pub judged-value : (f : Feature) (s : Setting) (oper : ℕ) (v : List ℕ) {x : Switches} {n : ℕ} {own : List ℕ} {w : Flags} {t : List ℕ} {d : Decision} → x ≡ switchesOf s
-    → n ≡ s .desired .length → own ≡ take n (s .desired .octets) → w ≡ flagsOf v → t ≡ parametersOf v → d ≡ judgedOn f x own oper w t
+pub judged-value : (f : Feature) (s : Setting) (oper : ℕ) (v : List ℕ) {x : Switches} {own : List ℕ} {w : Flags} {t : List ℕ} {d : Decision} → x ≡ switchesOf s
+    → own ≡ content (s .desired) → w ≡ flagsOf v → t ≡ parametersOf v → d ≡ judgedOn f x own oper w t
     → d ≡ judgedOn f (switchesOf s) (content (s .desired)) oper (flagsOf v) (parametersOf v)
-judged-value f s oper v {x} {n} {own} {w} {t} ex en eo ew et e =
-    judged-lent f s oper w t ex en eo e ∙ (λ i. judgedOn f (switchesOf s) (content (s .desired)) oper (ew i) (et i))
+judged-value f s oper v ex eo ew et e = e ∙ (λ i. judgedOn f (ex i) (eo i) oper (ew i) (et i))
 
 -- parameters that are valid suit the own ones just as what is held of them
 pub held-suits : (f : Feature) (o t : List ℕ) → valid f t ≡ true → compatible f o (content (stored (ours f t))) ≡ compatible f o t

@@ -43,6 +43,10 @@ after c f r rcvd seq x = marked f seq x (stepped c f r rcvd seq x)
 abbrev pub turnOf : State → Turn
 turnOf x = record { decision = decided (x .outcome); syncd = x .syncd; sequence = x .sequence }
 
+-- what the outcome rules decide of a sub-TLV that came so many times, with the value of the last
+abbrev pub decidedAt : Feature → State → ℕ → List ℕ → Decision
+decidedAt f x n v = decided (outcome f (x .max) (x .setting) (x .outcome .oper) (record { count = n; value = v }))
+
 abbrev pub keptAt : State → Bool → Turn
 keptAt x syncd = record { decision = decided (x .outcome); syncd = syncd; sequence = x .sequence }
 

@@ -190,7 +190,7 @@ fn with_peer(why: Reason, oper: u8, error: bool, mode: bool, p: Flags, adopts: b
 }
 
 // Rules 6 to 9, at a version and with a peer that is held.
-pub fn judge(f: Feature, s: Switches, own: &[u8], oper: u8, p: Flags, theirs: &[u8]) -> Decision
+fn judge(f: Feature, s: Switches, own: &[u8], oper: u8, p: Flags, theirs: &[u8]) -> Decision
     ensures { λ r. ⌜ r ≡ judgedOn f s (now (own .entry)) oper p (now (theirs .entry)) ⌝ }
 {
     if !s.enable {
@@ -201,6 +201,32 @@ pub fn judge(f: Feature, s: Switches, own: &[u8], oper: u8, p: Flags, theirs: &[
     }
     if s.willing != p.willing {
         return with_peer(Reason::Agreed, oper, false, !p.error, p, s.willing);
+    }
+    if parameters::compatible(f, own, theirs) {
+        return with_peer(Reason::Agreed, oper, false, !p.error, p, false);
+    }
+    with_peer(Reason::NotCompatible, oper, true, false, p, false)
+}
+
+// `judge` once more, for a peer that was held before: so `judge` has one caller, on a frame's way, and is inlined there.
+pub fn judge_anew(
+    f: Feature,
+    w: Switches,
+    own: &[u8],
+    oper: u8,
+    p: Flags,
+    theirs: &[u8],
+) -> Decision
+    ensures { λ r. ⌜ r ≡ judgedOn f w (now (own .entry)) oper p (now (theirs .entry)) ⌝ }
+{
+    if !w.enable {
+        return with_peer(Reason::Disabled, oper, false, false, p, false);
+    }
+    if !p.enable {
+        return with_peer(Reason::Disabled, oper, false, false, p, false);
+    }
+    if w.willing != p.willing {
+        return with_peer(Reason::Agreed, oper, false, !p.error, p, w.willing);
     }
     if parameters::compatible(f, own, theirs) {
         return with_peer(Reason::Agreed, oper, false, !p.error, p, false);
@@ -231,15 +257,14 @@ fn flags_in(value: &[u8]) -> Flags
     }
 }
 
-// Rules 6 to 9 of a sub-TLV's value.
-fn judge_value(f: Feature, s: Setting, oper: u8, value: &[u8]) -> Decision
+// Rules 6 to 9 of a sub-TLV's value; `desired` are the setting's own parameters, lent.
+fn judge_value(f: Feature, s: Setting, desired: &[u8], oper: u8, value: &[u8]) -> Decision
+    requires { ⌜ now desired ≡ content (s .desired) ⌝ }
     ensures { λ r. ⌜ r ≡ judgedOn f (switchesOf s) (content (s .desired)) oper (flagsOf (now (value .entry))) (parametersOf (now (value .entry))) ⌝ }
 {
-    let own = switches_of(s);
-    let desired = octets::first(&s.desired.octets, octets::wide(s.desired.length));
     judge(
         f,
-        own,
+        switches_of(s),
         desired,
         oper,
         flags_in(value),
@@ -247,8 +272,18 @@ fn judge_value(f: Feature, s: Setting, oper: u8, value: &[u8]) -> Decision
     )
 }
 
-// The outcome rules, first that applies: `count` sub-TLVs of the feature came, and `value` is that of the last.
-pub fn decide(f: Feature, max: u8, s: Setting, oper: u8, count: u8, value: &[u8]) -> Decision
+// The outcome rules, first that applies: `count` sub-TLVs of the feature came, and `value` is that of the last. `desired` are the
+// setting's own parameters, lent by the caller: a copy of the setting would be lent here, and made for it.
+pub fn decide(
+    f: Feature,
+    max: u8,
+    s: Setting,
+    desired: &[u8],
+    oper: u8,
+    count: u8,
+    value: &[u8],
+) -> Decision
+    requires { ⌜ now desired ≡ content (s .desired) ⌝ }
     ensures { λ r. ⌜ r ≡ decided (outcome f max s oper (record { count = count; value = now (value .entry) })) ⌝ }
 {
     if count == 0 {
@@ -272,5 +307,5 @@ pub fn decide(f: Feature, max: u8, s: Setting, oper: u8, count: u8, value: &[u8]
     if !parameters::valid(f, octets::from(value, 4)) {
         return without_peer(Reason::Bad, low, true);
     }
-    judge_value(f, s, low, value)
+    judge_value(f, s, desired, low, value)
 }

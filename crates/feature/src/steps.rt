@@ -10,7 +10,7 @@ ghost use Rattle.octets.specs.Octets.{same};
 ghost use Rattle.parameters.specs.Parameters.{content};
 ghost use Rattle.feature.specs.Outcome.{judged};
 ghost use Rattle.feature.specs.StateLaws.{Room, Sized, parts};
-ghost use Rattle.feature.specs.TurnLaws.{after, peerParametersAfter, keepsBy, keptAt, renewed, turnOf, weighed};
+ghost use Rattle.feature.specs.TurnLaws.{after, decidedAt, peerParametersAfter, keepsBy, keptAt, renewed, turnOf, weighed};
 ghost use Rattle.feature.specs.State.{freshAt, stopped, controlTwice, acknowledged, received, changed, marked, next, flags, subTlv, settingOf, sameSetting, judgedAgain, reset};
 use crate::Decision;
 use crate::Flags;
@@ -155,25 +155,21 @@ fn acknowledged(x: State, rcvd: u32, seq: u32) -> bool
     x.syncd | ((x.sequence == rcvd) & (x.sequence == seq))
 }
 
-// Steps 3 and 4 of handling, the outcome rules on what the frame had of the feature; and step 5.
-fn receive(f: Feature, x: State, rcvd: u32, seq: u32, count: u8, value: &[u8]) -> Turn
+// Steps 3 and 4 of handling, with `d` of the outcome rules on what the frame had of the feature; and step 5.
+fn receive(f: Feature, x: State, rcvd: u32, seq: u32, count: u8, value: &[u8], d: Decision) -> Turn
+    requires { ⌜ d ≡ decidedAt f x count (now value) ⌝ }
     ensures { λ r. ⌜ r ≡ turnOf (marked f seq x (received f (record { count = count; value = now (value .entry) }) (acknowledged rcvd seq x))) ⌝ }
 {
     let s = x.setting;
-    let o = x.outcome;
     let syncd = acknowledged(x, rcvd, seq);
     if !s.advertise {
         return kept(x, syncd);
     }
-    weigh(
-        x,
-        crate::decide(f, x.max, x.setting, o.oper, count, value),
-        syncd,
-        seq,
-    )
+    weigh(x, d, syncd, seq)
 }
 
-// Steps 1 to 5 for one feature.
+// Steps 1 to 5 for one feature. `d` is what the outcome rules decide: it is decided before, whatever the course, so that this is
+// short enough to be inlined for each feature.
 pub fn handle(
     f: Feature,
     x: State,
@@ -182,13 +178,15 @@ pub fn handle(
     seq: u32,
     count: u8,
     value: &[u8],
+    d: Decision,
 ) -> Turn
+    requires { ⌜ d ≡ decidedAt f x count (now value) ⌝ }
     ensures { λ r. ⌜ r ≡ turnOf (after course f (record { count = count; value = now (value .entry) }) rcvd seq x) ⌝ }
 {
     match course {
         Course::Twice => twice(f, x, seq),
         Course::OtherVersion => kept(x, x.syncd),
-        Course::Exchange => receive(f, x, rcvd, seq, count, value),
+        Course::Exchange => receive(f, x, rcvd, seq, count, value, d),
     }
 }
 
@@ -359,7 +357,7 @@ fn judge_held(f: Feature, s: Setting, oper: u8, p: Peer) -> Outcome
     let own = crate::switches_of(s);
     let desired = octets::first(&s.desired.octets, octets::wide(s.desired.length));
     let theirs = octets::first(&q.octets, octets::wide(q.length));
-    let decision = crate::judge(f, own, desired, oper, flags, theirs);
+    let decision = crate::judge_anew(f, own, desired, oper, flags, theirs);
     crate::outcome_of(decision, q)
 }
 

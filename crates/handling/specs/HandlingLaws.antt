@@ -146,6 +146,11 @@ module _ (o : List ℕ) (c : Contents) (k : Control) where
 abbrev pub afterIn : Feature → State → Heard → ℕ → List ℕ → Found → Turn
 afterIn f x h seq o found = turnOf (after (h .course) f (record { count = found .count; value = valueOf o found }) (h .control .rcvd) seq x)
 
+pub turn-is : (f : Feature) (x : State) (h : Heard) (seq : ℕ) (o : List ℕ) (found : Found) {v : List ℕ} {t : Turn} → v ≡ valueOf o found
+    → t ≡ turnOf (after (h .course) f (record { count = found .count; value = v }) (h .control .rcvd) seq x) → t ≡ afterIn f x h seq o found
+turn-is f x h seq o found ev e =
+    e ∙ ap (λ (v : List ℕ). turnOf (after (h .course) f (record { count = found .count; value = v }) (h .control .rcvd) seq x)) ev
+
 abbrev pub waitsBy : State → Turn → Bool
 waitsBy x t = x .setting .advertise && not (t .syncd)
 

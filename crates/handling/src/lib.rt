@@ -8,6 +8,7 @@ ghost use Rattle.tlv.specs.declared.Reading.the-variants.{Accepted};
 ghost use Rattle.tlv.specs.Layout.{valueOf};
 ghost use Rattle.tlv.specs.Promises.{Inside};
 ghost use Rattle.feature.specs.TurnLaws.{changedBy, peerParametersAfter};
+ghost use Rattle.parameters.specs.declared.Feature.the-variants.{Groups, Flow, Applications};
 ghost use Rattle.port.specs.Parts.{running};
 ghost use Rattle.port.specs.PortEvents.{becomes, completed};
 ghost use Rattle.handling.specs.Handling.{newlyMarked, breaks, rejected, handled, steps1to4};
@@ -104,14 +105,90 @@ fn hear(s: &[u8], c: Contents, k: Control) -> Heard
     }
 }
 
-// Steps 1 to 5 for one feature.
-fn turn_of(f: Feature, x: State, h: Heard, seq: u32, s: &[u8], found: Found) -> Turn
+// Steps 1 to 5 for one feature. Each feature has a function of its own, with one caller: it is inlined there, and what it calls is
+// made for the feature; no state is then copied for a call.
+fn turn_of_groups(x: State, h: Heard, seq: u32, s: &[u8], found: Found) -> Turn
     requires { ⌜ found .start + found .length ≤ length (now s) ⌝ }
-    ensures { λ r. ⌜ r ≡ afterIn f x h seq (now (s .entry)) found ⌝ }
+    ensures { λ r. ⌜ r ≡ afterIn Groups x h seq (now (s .entry)) found ⌝ }
 {
     let course = h.course;
     let k = h.control;
-    feature::steps::handle(f, x, course, k.rcvd, seq, found.count, part(s, found))
+    let o = x.outcome;
+    let value = part(s, found);
+    let own = x.setting.desired;
+    let desired = octets::first(&own.octets, octets::wide(own.length));
+    let d = feature::decide(
+        Feature::Groups,
+        x.max,
+        x.setting,
+        desired,
+        o.oper,
+        found.count,
+        value,
+    );
+    feature::steps::handle(
+        Feature::Groups,
+        x,
+        course,
+        k.rcvd,
+        seq,
+        found.count,
+        value,
+        d,
+    )
+}
+
+fn turn_of_flow(x: State, h: Heard, seq: u32, s: &[u8], found: Found) -> Turn
+    requires { ⌜ found .start + found .length ≤ length (now s) ⌝ }
+    ensures { λ r. ⌜ r ≡ afterIn Flow x h seq (now (s .entry)) found ⌝ }
+{
+    let course = h.course;
+    let k = h.control;
+    let o = x.outcome;
+    let value = part(s, found);
+    let own = x.setting.desired;
+    let desired = octets::first(&own.octets, octets::wide(own.length));
+    let d = feature::decide(
+        Feature::Flow,
+        x.max,
+        x.setting,
+        desired,
+        o.oper,
+        found.count,
+        value,
+    );
+    feature::steps::handle(Feature::Flow, x, course, k.rcvd, seq, found.count, value, d)
+}
+
+fn turn_of_applications(x: State, h: Heard, seq: u32, s: &[u8], found: Found) -> Turn
+    requires { ⌜ found .start + found .length ≤ length (now s) ⌝ }
+    ensures { λ r. ⌜ r ≡ afterIn Applications x h seq (now (s .entry)) found ⌝ }
+{
+    let course = h.course;
+    let k = h.control;
+    let o = x.outcome;
+    let value = part(s, found);
+    let own = x.setting.desired;
+    let desired = octets::first(&own.octets, octets::wide(own.length));
+    let d = feature::decide(
+        Feature::Applications,
+        x.max,
+        x.setting,
+        desired,
+        o.oper,
+        found.count,
+        value,
+    );
+    feature::steps::handle(
+        Feature::Applications,
+        x,
+        course,
+        k.rcvd,
+        seq,
+        found.count,
+        value,
+        d,
+    )
 }
 
 // Whether the feature is advertised and waits for an acknowledgement.
@@ -170,16 +247,9 @@ fn decide(p: Port, s: &[u8], c: Contents) -> Change
     let old = p.control;
     let h = hear(s, c, old);
     let course = h.course;
-    let g = turn_of(Feature::Groups, p.groups, h, old.seq, s, c.groups);
-    let w = turn_of(Feature::Flow, p.flow, h, old.seq, s, c.flow);
-    let a = turn_of(
-        Feature::Applications,
-        p.applications,
-        h,
-        old.seq,
-        s,
-        c.applications,
-    );
+    let g = turn_of_groups(p.groups, h, old.seq, s, c.groups);
+    let w = turn_of_flow(p.flow, h, old.seq, s, c.flow);
+    let a = turn_of_applications(p.applications, h, old.seq, s, c.applications);
     let waiting = waits(p.groups, g) | waits(p.flow, w) | waits(p.applications, a);
     let control = port::events::count(h.control, waiting);
     let same = port::writing::same_control(old, control);

@@ -7,12 +7,6 @@ use Rattle.feature.proofs.judge_value.Tie as tie
 switches-of-requires : tie.Need-switches-of-requires
 switches-of-requires c κs = search needs
 
-wide-requires : tie.Need-wide-requires
-wide-requires c κs = search needs
-
-first-requires : tie.Need-first-requires
-first-requires c κs = search needs
-
 flags-in-requires : tie.Need-flags-in-requires
 flags-in-requires c κs = search needs
 
@@ -30,8 +24,6 @@ judge-value-spec =
     tie.close
     (tie.spec
     switches-of-requires
-    wide-requires
-    first-requires
     flags-in-requires
     from-requires
     judge-requires

@@ -7,14 +7,14 @@ use Rattle.handling.proofs.decide.Tie as tie
 hear-requires : tie.Need-hear-requires
 hear-requires c κs = search needs
 
-turn-of-requires : tie.Need-turn-of-requires
-turn-of-requires c κs = search needs
+turn-of-groups-requires : tie.Need-turn-of-groups-requires
+turn-of-groups-requires c κs = search needs
 
-turn-of-requires-2 : tie.Need-turn-of-requires-2
-turn-of-requires-2 c κs = search needs
+turn-of-flow-requires : tie.Need-turn-of-flow-requires
+turn-of-flow-requires c κs = search needs
 
-turn-of-requires-3 : tie.Need-turn-of-requires-3
-turn-of-requires-3 c κs = search needs
+turn-of-applications-requires : tie.Need-turn-of-applications-requires
+turn-of-applications-requires c κs = search needs
 
 waits-requires : tie.Need-waits-requires
 waits-requires c κs = search needs
@@ -54,8 +54,8 @@ notice-requires-3 c κs = search needs
 
 returns : tie.Need-returns
 returns c =
-    decide-is _ _ _ (c .before .before .before .before .before .before .before .before .before .before .before .before .before .before .before .before .before .before .pre .1) (c .before .before .before .before .before .before .before .before .before .before .before .before .before .before .before .hear .ensures) (c .before .before .before .before .before .before .before .before .before .before .before .before .before .before .turn-of .ensures)
-    (c .before .before .before .before .before .before .before .before .before .before .before .before .before .turn-of2 .ensures) (c .before .before .before .before .before .before .before .before .before .before .before .before .turn-of3 .ensures) (c .before .before .before .before .before .before .before .before .before .before .before .waits .ensures)
+    decide-is _ _ _ (c .before .before .before .before .before .before .before .before .before .before .before .before .before .before .before .before .before .before .pre .1) (c .before .before .before .before .before .before .before .before .before .before .before .before .before .before .before .hear .ensures) (c .before .before .before .before .before .before .before .before .before .before .before .before .before .before .turn-of-groups .ensures)
+    (c .before .before .before .before .before .before .before .before .before .before .before .before .before .turn-of-flow .ensures) (c .before .before .before .before .before .before .before .before .before .before .before .before .turn-of-applications .ensures) (c .before .before .before .before .before .before .before .before .before .before .before .waits .ensures)
     (c .before .before .before .before .before .before .before .before .before .before .waits2 .ensures) (c .before .before .before .before .before .before .before .before .before .waits3 .ensures) (c .before .before .before .before .before .before .before .before .count .ensures)
     (c .before .before .before .before .before .before .before .same-control .ensures) (c .before .before .before .before .before .before .changes .ensures) (c .before .before .before .before .before .changes2 .ensures)
     (c .before .before .before .before .changes3 .ensures) (c .before .before .before .newly-marked .ensures) (c .before .before .notice .ensures)
@@ -66,9 +66,9 @@ decide-spec =
     tie.close
     (tie.spec
     hear-requires
-    turn-of-requires
-    turn-of-requires-2
-    turn-of-requires-3
+    turn-of-groups-requires
+    turn-of-flow-requires
+    turn-of-applications-requires
     waits-requires
     waits-requires-2
     waits-requires-3

@@ -19,8 +19,8 @@ wide-requires-2 c κs = search needs
 first-requires-2 : tie.Need-first-requires-2
 first-requires-2 c κs = search needs
 
-judge-requires : tie.Need-judge-requires
-judge-requires c κs = search needs
+judge-anew-requires : tie.Need-judge-anew-requires
+judge-anew-requires c κs = search needs
 
 outcome-of-requires : tie.Need-outcome-of-requires
 outcome-of-requires c κs = search needs
@@ -37,6 +37,6 @@ judge-held-spec =
     first-requires
     wide-requires-2
     first-requires-2
-    judge-requires
+    judge-anew-requires
     outcome-of-requires
     returns)

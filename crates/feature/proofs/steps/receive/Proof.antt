@@ -13,9 +13,6 @@ kept-requires c κs = search needs
 returns : tie.Need-returns
 returns c = search receive-withheld
 
-decide-requires : tie.Need-decide-requires
-decide-requires c κs = search needs
-
 weigh-requires : tie.Need-weigh-requires
 weigh-requires c κs = search needs
 
@@ -25,4 +22,4 @@ returns-2 c = search receive-advertised
 pub receive-spec : {M : Type 1} → statement M
 receive-spec =
     tie.close
-    (tie.spec acknowledged-requires kept-requires returns decide-requires weigh-requires returns-2)
+    (tie.spec acknowledged-requires kept-requires returns weigh-requires returns-2)

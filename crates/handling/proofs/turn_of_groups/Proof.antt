@@ -1,0 +1,28 @@
+-- `handling::turn_of_groups` meets its contract. Assumes nothing.
+use Rattle.parameters.specs.WritingLaws.{content-of}
+use Rattle.handling.specs.HandlingLaws.{turn-is}
+use borrow.Author.Needs.{needs}
+use Rattle.handling.proofs.turn_of_groups.Statement.{statement}
+use Rattle.handling.proofs.turn_of_groups.Tie as tie
+
+part-requires : tie.Need-part-requires
+part-requires c κs = search needs
+
+wide-requires : tie.Need-wide-requires
+wide-requires c κs = search needs
+
+first-requires : tie.Need-first-requires
+first-requires c κs = search needs
+
+decide-requires : tie.Need-decide-requires
+decide-requires c κs = search content-of
+
+handle-requires : tie.Need-handle-requires
+handle-requires c κs = search needs
+
+returns : tie.Need-returns
+returns c = search turn-is
+
+pub turn-of-groups-spec : {M : Type 1} → statement M
+turn-of-groups-spec =
+    tie.close (tie.spec part-requires wide-requires first-requires decide-requires handle-requires returns)
