@@ -247,9 +247,9 @@ fn decide(p: Port, s: &[u8], c: Contents) -> Change
     let old = p.control;
     let h = hear(s, c, old);
     let course = h.course;
+    let a = turn_of_applications(p.applications, h, old.seq, s, c.applications);
     let g = turn_of_groups(p.groups, h, old.seq, s, c.groups);
     let w = turn_of_flow(p.flow, h, old.seq, s, c.flow);
-    let a = turn_of_applications(p.applications, h, old.seq, s, c.applications);
     let waiting = waits(p.groups, g) | waits(p.flow, w) | waits(p.applications, a);
     let control = port::events::count(h.control, waiting);
     let same = port::writing::same_control(old, control);
@@ -297,8 +297,6 @@ fn apply(p: Port, k: Change, s: &[u8], c: Contents) -> Port
 {
     let course = k.course;
     let control = k.control;
-    let x = peer_parameters(Feature::Groups, p.groups, course, k.groups, s, c.groups);
-    let y = peer_parameters(Feature::Flow, p.flow, course, k.flow, s, c.flow);
     let z = peer_parameters(
         Feature::Applications,
         p.applications,
@@ -307,6 +305,8 @@ fn apply(p: Port, k: Change, s: &[u8], c: Contents) -> Port
         s,
         c.applications,
     );
+    let y = peer_parameters(Feature::Flow, p.flow, course, k.flow, s, c.flow);
+    let x = peer_parameters(Feature::Groups, p.groups, course, k.groups, s, c.groups);
     let mut next = p;
     next.control = control;
     next.groups = feature::steps::renew(p.groups, k.groups, x);

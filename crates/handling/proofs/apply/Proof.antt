@@ -24,7 +24,7 @@ renew-requires-3 c κs = search needs
 
 returns : tie.Need-returns
 returns c =
-    apply-is _ _ _ (c .before .before .before .before .before .before .before .before .pre .1) (c .before .before .before .before .before .peer-parameters .ensures) (c .before .before .before .before .peer-parameters2 .ensures) (c .before .before .before .peer-parameters3 .ensures)
+    apply-is _ _ _ (c .before .before .before .before .before .before .before .before .pre .1) (c .before .before .before .peer-parameters3 .ensures) (c .before .before .before .before .peer-parameters2 .ensures) (c .before .before .before .before .before .peer-parameters .ensures)
     (c .before .before .renew .ensures) (c .before .renew2 .ensures) (c .renew3 .ensures)
 
 pub apply-spec : {M : Type 1} → statement M

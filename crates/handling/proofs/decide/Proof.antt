@@ -54,8 +54,8 @@ notice-requires-3 c κs = search needs
 
 returns : tie.Need-returns
 returns c =
-    decide-is _ _ _ (c .before .before .before .before .before .before .before .before .before .before .before .before .before .before .before .before .before .before .pre .1) (c .before .before .before .before .before .before .before .before .before .before .before .before .before .before .before .hear .ensures) (c .before .before .before .before .before .before .before .before .before .before .before .before .before .before .turn-of-groups .ensures)
-    (c .before .before .before .before .before .before .before .before .before .before .before .before .before .turn-of-flow .ensures) (c .before .before .before .before .before .before .before .before .before .before .before .before .turn-of-applications .ensures) (c .before .before .before .before .before .before .before .before .before .before .before .waits .ensures)
+    decide-is _ _ _ (c .before .before .before .before .before .before .before .before .before .before .before .before .before .before .before .before .before .before .pre .1) (c .before .before .before .before .before .before .before .before .before .before .before .before .before .before .before .hear .ensures) (c .before .before .before .before .before .before .before .before .before .before .before .before .before .turn-of-groups .ensures)
+    (c .before .before .before .before .before .before .before .before .before .before .before .before .turn-of-flow .ensures) (c .before .before .before .before .before .before .before .before .before .before .before .before .before .before .turn-of-applications .ensures) (c .before .before .before .before .before .before .before .before .before .before .before .waits .ensures)
     (c .before .before .before .before .before .before .before .before .before .before .waits2 .ensures) (c .before .before .before .before .before .before .before .before .before .waits3 .ensures) (c .before .before .before .before .before .before .before .before .count .ensures)
     (c .before .before .before .before .before .before .before .same-control .ensures) (c .before .before .before .before .before .before .changes .ensures) (c .before .before .before .before .before .changes2 .ensures)
     (c .before .before .before .before .changes3 .ensures) (c .before .before .before .newly-marked .ensures) (c .before .before .notice .ensures)
@@ -66,9 +66,9 @@ decide-spec =
     tie.close
     (tie.spec
     hear-requires
+    turn-of-applications-requires
     turn-of-groups-requires
     turn-of-flow-requires
-    turn-of-applications-requires
     waits-requires
     waits-requires-2
     waits-requires-3
