@@ -2,7 +2,8 @@
  * What firmware in C calls of the port engine. Link with libsternquast.a (pkg-config: sternquast).
  *
  * Every function is proved: it answers by the rules, whatever octets it is lent, reads no octet beside them and writes none, and
- * returns. It allocates nothing and keeps nothing between calls, so any number of threads may call it.
+ * returns. That this header says what the library does, and NULL, are tested and not proved. It allocates nothing and keeps
+ * nothing between calls, so any number of threads may call it.
  */
 #ifndef STERNQUAST_H
 #define STERNQUAST_H
@@ -28,8 +29,8 @@ enum sternquast_refusal {
     STERNQUAST_REFUSAL_CONTROL_VERSION = 8,    /* its Oper is above its Max */
     STERNQUAST_REFUSAL_INVALID_SETTING = 9,    /* the local setting is invalid */
     STERNQUAST_REFUSAL_SHORT_OUTPUT = 10,      /* the lent output is shorter than the frame */
-    STERNQUAST_REFUSAL_UNKNOWN_FEATURE = 11,   /* the feature number is not 2, 3 or 4 */
-    STERNQUAST_REFUSAL_NO_NOTICE = 12,         /* a notice is taken when none is held */
+    STERNQUAST_REFUSAL_UNKNOWN_FEATURE = 11,   /* the feature number is not 2, 3 or 4; 4 at a port of Rev 1.0 */
+    STERNQUAST_REFUSAL_NO_NOTICE = 12,         /* a notice is taken when the port holds none */
     STERNQUAST_REFUSAL_NO_PORT = 16            /* the port is not 1 to 4 */
 };
 

@@ -1,28 +1,19 @@
 -- Two revisions: unlike ends, and what a 1.0 port writes. Assumes nothing.
-use Prim.Native.Nat.{ℕ, _≤_}
-use mathlib.Core.Path.{_≡_, refl, sym, ap, _∙_}
-use mathlib.Core.Bool.{Bool, true, false}
-use mathlib.Core.List.{List}
-use lib.ListN.{length}
-use Rattle.octets.specs.Words.{if_then_else_}
-use Rattle.tlv.specs.declared.Contents.{Contents}
-use Rattle.tlv.specs.declared.Revision.{Revision}
-use Rattle.tlv.specs.declared.Revision.the-variants.{Rev101, Rev10}
-use Rattle.tlv.specs.declared.Reading.the-variants.{Accepted}
-use Rattle.tlv.specs.Layout.{readFrame}
+use mathlib.Core.Path.{_≡_, refl, ap, _∙_}
+use mathlib.Core.Bool.{true, false}
+use mathlib.Core.List.{[]}
+use Rattle.tlv.specs.declared.Revision.the-variants.{Rev10}
 use Rattle.tlv.specs.Revisions.{hasApplications}
-use Rattle.parameters.specs.declared.Feature.{Feature}
 use Rattle.parameters.specs.declared.Feature.the-variants.{Applications}
 use Rattle.feature.specs.declared.Reason.the-variants.{Absent}
 use Rattle.feature.specs.declared.Outcome.{Outcome}
 use Rattle.feature.specs.declared.Setting.{Setting}
+use Rattle.feature.specs.declared.State.{State}
+use Rattle.feature.specs.State.{subTlv}
 use Rattle.feature.specs.Outcome.{outcome}
 use Rattle.port.specs.declared.Port.{Port}
-use Rattle.port.specs.Writing.{frame}
 use Rattle.port.specs.Sound.{SoundPort}
-use Rattle.recorder.specs.declared.Recorder.{Recorder}
 use Rattle.recorder.specs.Recorder.{portAt}
-use Rattle.recorder.specs.Sound.{Reachable}
 use Rattle.recorder.proofs.Reachable.{reachable-sound}
 use Rattle.exchange.specs.Rounds.{Side, Ends, sideOf, receivedAlone, ruled, alone, expected}
 use Rattle.exchange.specs.Demand3.{Begun, Agreed}
@@ -44,7 +35,7 @@ beside-older : (own peer p : Port) → SoundPort peer → peer .revision ≡ Rev
 beside-older own peer p h e a =
     record {
       absent = λ t. ap (λ (o : Outcome). o .reason) (a .outcome Applications) ∙ absent-beside (sideOf own Applications) (sideOf peer Applications) t (older-silent peer h e);
-      others = a .outcome;
+      agreed = a;
     }
 
 pub unlike-ends : (c : Ends) → Begun c → UnlikeEnds c
@@ -52,14 +43,17 @@ unlike-ends c h =
     record {
       left = λ e d rs p n. beside-older (c .l) (c .r) _ (h .r .sound) d (demand3 c h .settles rs p n .0);
       right = λ e d rs p n. beside-older (c .r) (c .l) _ (h .l .sound) d (demand3 c h .settles rs p n .1);
+      settled-left = λ e d rs p z. beside-older (c .l) (c .r) _ (h .r .sound) d (demand3 c h .agrees rs p .0 z);
+      settled-right = λ e d rs p z. beside-older (c .r) (c .l) _ (h .l .sound) d (demand3 c h .agrees rs p .1 z);
     }
 
+nothing-written : (x : State) → x .setting .advertise ≡ false → subTlv Applications x ≡ []
+unfolding subTlv
+nothing-written x e = rw e refl
+
 pub writes-no-applications : WritesNoApplications
-writes-no-applications r h n e c a =
+writes-no-applications r h n e =
     let p : Port = portAt r n in
     let s : SoundPort p = reachable-sound r h .ports n in
-    let k : frames.contents p s ≡ c = same-contents (sym (frames.accepted p s) ∙ a) in
-    ap (λ (d : Contents). d .applications .count) (sym k) ∙ frames.none-written p s (older-silent p s e)
-  where
-    same-contents : {c d : Contents} → Accepted c ≡ Accepted d → c ≡ d
-    same-contents e = cc
+    let a : p .applications .setting .advertise ≡ false = older-silent p s e in
+    record { none = nothing-written (p .applications) a; contents = frames.contents p s; accepted = frames.accepted p s; count = frames.none-written p s a }

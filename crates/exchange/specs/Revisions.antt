@@ -2,39 +2,49 @@
 -- port has from its creation on. Here is what they come to "between unlike ends", and what a 1.0 port writes.
 use Prim.Native.Nat.{ℕ, _≤_}
 use mathlib.Core.Path.{_≡_}
-use mathlib.Core.Bool.{true, false}
-use mathlib.Core.List.{List}
+use mathlib.Core.Bool.{true}
+use mathlib.Core.List.{List, []}
 use lib.ListN.{length}
 use Rattle.tlv.specs.declared.Contents.{Contents}
 use Rattle.tlv.specs.declared.Revision.the-variants.{Rev101, Rev10}
 use Rattle.tlv.specs.declared.Reading.the-variants.{Accepted}
 use Rattle.tlv.specs.Layout.{readFrame}
-use Rattle.parameters.specs.declared.Feature.{Feature}
-use Rattle.parameters.specs.declared.Feature.the-variants.{Groups, Flow, Applications}
+use Rattle.parameters.specs.declared.Feature.the-variants.{Applications}
 use Rattle.feature.specs.declared.Reason.the-variants.{NoPeerYet, Absent}
+use Rattle.feature.specs.State.{subTlv}
 use Rattle.port.specs.declared.Port.{Port}
-use Rattle.port.specs.Parts.{featureOf}
+use Rattle.port.specs.Settled.{settled}
 use Rattle.port.specs.Writing.{frame}
 use Rattle.recorder.specs.declared.Recorder.{Recorder}
 use Rattle.recorder.specs.Recorder.{portAt}
 use Rattle.recorder.specs.Sound.{Reachable}
-use Rattle.exchange.specs.Rounds.{Ends, Round, sideOf, rounds, execAll, Proper, expected}
-use Rattle.exchange.specs.Demand3.{Begun}
+use Rattle.exchange.specs.Rounds.{Ends, Round, Lossy, rounds, lossyRounds, execAll, Proper}
+use Rattle.exchange.specs.Demand3.{Agreed}
 
--- an end that started as `own`, 1.01, beside one that started as `peer`, 1.0, and whose port is now p: "the 1.01 end reads "absent" for applications if it
--- advertises them and everything else is as before": what the outcome rules say of the two settings
+-- an end that started as `own`, 1.01, beside one that started as `peer`, 1.0, and whose port is now p: "the 1.01 end reads "absent" for applications if
+-- it advertises them and everything else is as before": all that demand 3 says of the two settings
 pub record BesideOlder (own peer p : Port) : Type 0 where
   pub absent : own .applications .setting .advertise ≡ true → p .applications .outcome .reason ≡ Absent
-  pub others : (f : Feature) → featureOf p f .outcome ≡ expected f (sideOf own f) (sideOf peer f)
+  pub agreed : Agreed own peer p
 
--- five or more rounds between a 1.01 end and a 1.0 end, on either side
+-- between a 1.01 end and a 1.0 end, on either side: after five or more rounds; and after any rounds with any losses, if the 1.01 end is settled
 pub record UnlikeEnds (c : Ends) : Type 0 where
   pub left : c .l .revision ≡ Rev101 → c .r .revision ≡ Rev10 → (rs : List Round) → Proper (rounds rs) c → 5 ≤ length rs
       → BesideOlder (c .l) (c .r) (execAll (rounds rs) c .l)
   pub right : c .r .revision ≡ Rev101 → c .l .revision ≡ Rev10 → (rs : List Round) → Proper (rounds rs) c → 5 ≤ length rs
       → BesideOlder (c .r) (c .l) (execAll (rounds rs) c .r)
+  pub settled-left : c .l .revision ≡ Rev101 → c .r .revision ≡ Rev10 → (rs : List Lossy) → Proper (lossyRounds rs) c
+      → settled (execAll (lossyRounds rs) c .l) ≡ true → BesideOlder (c .l) (c .r) (execAll (lossyRounds rs) c .l)
+  pub settled-right : c .r .revision ≡ Rev101 → c .l .revision ≡ Rev10 → (rs : List Lossy) → Proper (lossyRounds rs) c
+      → settled (execAll (lossyRounds rs) c .r) ≡ true → BesideOlder (c .r) (c .l) (execAll (lossyRounds rs) c .r)
 
--- a 1.0 port, after any list of calls, writes a frame in which a reader of either revision finds no sub-TLV of type 4
+-- what a port writes has no sub-TLV of type 4; and a reader, who accepts it, finds none
+pub record WritesNone (p : Port) : Type 0 where
+  pub none : subTlv Applications (p .applications) ≡ []
+  pub contents : Contents
+  pub accepted : readFrame (frame p) ≡ Accepted contents
+  pub count : contents .applications .count ≡ 0
+
+-- a 1.0 port, after any list of calls
 abbrev pub WritesNoApplications : Type 0
-WritesNoApplications =
-    (r : Recorder) → Reachable r → (n : ℕ) → portAt r n .revision ≡ Rev10 → (c : Contents) → readFrame (frame (portAt r n)) ≡ Accepted c → c .applications .count ≡ 0
+WritesNoApplications = (r : Recorder) → Reachable r → (n : ℕ) → portAt r n .revision ≡ Rev10 → WritesNone (portAt r n)

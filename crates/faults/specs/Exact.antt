@@ -83,11 +83,12 @@ flow-exact p = flow-by (length p is 2) (flowNumber p atmost 8) (ones 8 (mask p) 
 -- ---- applications
 
 entries-by : (a b c d e : Bool) (n k i j l m s : ℕ)
-    → isNone (if not a then Fault.Ragged n else if b then Fault.Entries k else if c then Fault.Foreign i else if d then Fault.Again j l else if e then Fault.Selector m s else Fault.None)
+    → isNone (if not a then Fault.Ragged n else if c then Fault.Foreign i else if b then Fault.Entries k else if d then Fault.Again j l else if e then Fault.Selector m s else Fault.None)
     ≡ (a && (not b && (not c && (not d && not e))))
 unfolding isNone
 entries-by false b c d e n k i j l m s = refl
-entries-by true true c d e n k i j l m s = refl
+entries-by true true true d e n k i j l m s = refl
+entries-by true true false d e n k i j l m s = refl
 entries-by true false true d e n k i j l m s = refl
 entries-by true false false true e n k i j l m s = refl
 entries-by true false false false true n k i j l m s = refl

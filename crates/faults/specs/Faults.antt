@@ -1,4 +1,6 @@
--- 01, Refusal numbers, 9: "the setting is invalid". Why it is: the first rule that fails, in the order of document 01, with the numbers that say so.
+-- 01, Refusal numbers, 9: "local setting invalid". Why it is: the first rule that fails, with the numbers that say so. The order is that of document
+-- 01's rules; a foreign entry comes before entries are counted, since 02, E3, skips such entries "before duplicates are sought, the limit of 16
+-- counted".
 use Prim.Native.Nat.{ℕ, zero, suc, _+_, _%_}
 use mathlib.Core.Bool.{Bool, not}
 use mathlib.Core.List.{List}
@@ -40,7 +42,7 @@ flowFault p =
     else if not (ones 8 (mask p) atmost flowNumber p) then Fault.Ones (ones 8 (mask p)) (flowNumber p)
     else Fault.None
 
--- ---- applications: whole entries, "n 0 to 16", none that is not ours, "no two entries with the same selector and id", "selector 0 or 1 only"
+-- ---- applications: whole entries, none that is not ours, "n 0 to 16", "no two entries with the same selector and id", "selector 0 or 1 only"
 
 unfoldable pub foreignEntry : List ℕ → ℕ
 foreignEntry p = firstNot (entryCount p) 0 (isOurs p)
@@ -65,8 +67,8 @@ highSelector p = firstNot (entryCount p) 0 (lowSelector p)
 unfoldable pub applicationsFault : List ℕ → Fault
 applicationsFault p =
     if not (length p % 6 is 0) then Fault.Ragged (length p)
-    else if 16 below entryCount p then Fault.Entries (entryCount p)
     else if foreignEntry p below entryCount p then Fault.Foreign (foreignEntry p + 1)
+    else if 16 below entryCount p then Fault.Entries (entryCount p)
     else if secondEntry p below entryCount p then Fault.Again (firstEntry p (secondEntry p) + 1) (secondEntry p + 1)
     else if highSelector p below entryCount p then Fault.Selector (highSelector p + 1) (selectorOf p (highSelector p))
     else Fault.None

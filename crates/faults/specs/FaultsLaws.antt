@@ -197,16 +197,18 @@ module _ (p : List ℕ) where
   unfolding applicationsFault
   entries-ragged h = simp (ne-eqb (length p % 6) 0 h)
 
-  pub entries-many : length p % 6 ≡ 0 → 16 < entryCount p → Fault.Entries (entryCount p) ≡ applicationsFault p
-  unfolding applicationsFault
-  entries-many h m = simp (eq-eqb (length p % 6) 0 h, lt-ltb 16 (entryCount p) m)
-
   module _ {a : ℕ} where
-    pub entries-foreign : length p % 6 ≡ 0 → entryCount p ≤ 16 → a ≡ foreignEntry p → a < entryCount p → Fault.Foreign (a + 1) ≡ applicationsFault p
+    pub entries-foreign : length p % 6 ≡ 0 → a ≡ foreignEntry p → a < entryCount p → Fault.Foreign (a + 1) ≡ applicationsFault p
     unfolding applicationsFault
-    entries-foreign h m e l =
+    entries-foreign h e l =
         let f : foreignEntry p below entryCount p ≡ true = rw (← e) (lt-ltb a (entryCount p) l) in
-        simp (eq-eqb (length p % 6) 0 h, le-ltb 16 (entryCount p) m, f, e)
+        simp (eq-eqb (length p % 6) 0 h, f, e)
+
+    pub entries-many : length p % 6 ≡ 0 → a ≡ foreignEntry p → entryCount p ≤ a → 16 < entryCount p → Fault.Entries (entryCount p) ≡ applicationsFault p
+    unfolding applicationsFault
+    entries-many h e l m =
+        let f : foreignEntry p below entryCount p ≡ false = rw (← e) (le-ltb a (entryCount p) l) in
+        simp (eq-eqb (length p % 6) 0 h, f, lt-ltb 16 (entryCount p) m)
 
     module _ {b : ℕ} where
       pub entries-again : {c : ℕ} → length p % 6 ≡ 0 → entryCount p ≤ 16 → a ≡ foreignEntry p → entryCount p ≤ a → b ≡ secondEntry p → b < entryCount p → c ≡ firstEntry p b

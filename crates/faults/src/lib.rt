@@ -163,12 +163,12 @@ fn applications(p: &[u8]) -> Fault
         return Fault::Ragged(length);
     }
     let n = length / 6;
-    if 16 < n {
-        return Fault::Entries(n);
-    }
     let foreign = foreign_entry(p);
     if foreign < n {
         return Fault::Foreign(foreign + 1);
+    }
+    if 16 < n {
+        return Fault::Entries(n);
     }
     let second = second_entry(p);
     if second < n {

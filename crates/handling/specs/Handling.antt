@@ -48,7 +48,7 @@ message o c =
     record { oper = at v 0; max = at v 1; seq = number4 v 2; ack = number4 v 6; has = hasOf o c }
 
 -- 1. "Two or more controls: peer seen; each advertised feature gets reason "control twice", .. numbers and versions stay."
--- Duplicate control is marked (Notices).
+-- Duplicate control is marked (Notices). 02, E1: an accepted frame clears the mark of a broken control, here and in 2 and 3.
 abbrev pub seenTwice : Control → Control
 seenTwice c = record { max = c .max; oper = c .oper; seq = c .seq; ack = c .ack; rcvd = c .rcvd; seen = true; duplicate = true; broken = false }
 
@@ -95,7 +95,7 @@ accepted o c p = frameEvent p (completed p (steps1to4 o c p))
 
 -- 01: "A refusal returns its number alone and changes nothing". 02, E1: "refusals 7 and 8 write notice 1 (port) if the port's new mark is off,
 -- and set it; any other outcome of a frame .. clears it. .. a refusal changes nothing but this mark and notice". The mark says that the
--- last frame had a broken control.
+-- last frame since the fresh state had a broken control.
 unfoldable pub breaks : Refusal → Bool
 breaks why = refusalNumber why is 7 || refusalNumber why is 8
 

@@ -107,13 +107,10 @@ inOrder port n =
 
 -- ---- Events
 
--- "A refusal returns its number alone and changes nothing": of a frame see handling/specs (02, E1). 02, E2: "refusals 3 to 8 .. carry, beside the number, a place"; the place beside
--- every other is 0.
-abbrev pub refusedAt : Refusal → ℕ → Port → Event
-refusedAt why place p = record { answer = Refused why place; port = p; notices = silent }
-
+-- "A refusal returns its number alone and changes nothing": of a frame see handling/specs (02, E1). Beside a refusal that is no frame's the place
+-- of 02, E2, is 0.
 abbrev pub refused : Refusal → Port → Event
-refused why p = refusedAt why 0 p
+refused why p = record { answer = Refused why 0; port = p; notices = silent }
 
 -- an event that changes nothing at all
 abbrev pub unchanged : Port → Event

@@ -7,7 +7,7 @@ ghost use Rattle.octets.specs.Words.{_is_};
 ghost use Rattle.port.specs.EventLaws.{counted};
 ghost use Rattle.port.specs.Replies.{raisedNumber};
 ghost use Rattle.port.specs.Settled.{settled};
-ghost use Rattle.port.specs.PortEvents.{unsynced, sent, freshControl, freshParts, freshPort, completed, noticed, becomes, raises, silent, refusedAt, unchanged, flagNotice, restarts, flagSet, withFeature, withSetting, settingChanged, switchedOff, blankPort, started, event, flagged, peerGone, setTo, changedFeature, changedApplications, changedSetting, made, createdWith, created};
+ghost use Rattle.port.specs.PortEvents.{unsynced, sent, freshControl, freshParts, freshPort, completed, noticed, becomes, raises, silent, refused, unchanged, flagNotice, restarts, flagSet, withFeature, withSetting, settingChanged, switchedOff, blankPort, started, event, flagged, peerGone, setTo, changedFeature, changedApplications, changedSetting, made, createdWith, created};
 use crate::Answer;
 use crate::Control;
 use crate::Event;
@@ -236,13 +236,13 @@ fn silent() -> Notices
     }
 }
 
-// A refusal changes nothing. Its place is 0, but for a frame that went wrong.
-pub fn refuse(why: Refusal, place: usize, p: Port) -> Event
-    ensures { λ r. ⌜ r ≡ refusedAt why place p ⌝ }
+// A refusal changes nothing; a frame's is `handling::reject`.
+pub fn refuse(why: Refusal, p: Port) -> Event
+    ensures { λ r. ⌜ r ≡ refused why p ⌝ }
 {
     let none = silent();
     Event {
-        answer: Answer::Refused(why, place),
+        answer: Answer::Refused(why, 0),
         port: p,
         notices: none,
     }
@@ -484,7 +484,7 @@ pub fn peer_gone(p: Port) -> Event
     ensures { λ r. ⌜ r ≡ peerGone p ⌝ }
 {
     if !crate::writing::running(p) {
-        return refuse(Refusal::NotRunning, 0, p);
+        return refuse(Refusal::NotRunning, p);
     }
     let c = p.control;
     let next = fresh(p);
@@ -508,7 +508,7 @@ fn change_feature(p: Port, f: Feature, w: Switches, o: &[u8]) -> Event
     ensures { λ r. ⌜ r ≡ changedFeature f w (now (o .entry)) p ⌝ }
 {
     if !parameters::valid_local(f, o) {
-        return refuse(Refusal::InvalidSetting, 0, p);
+        return refuse(Refusal::InvalidSetting, p);
     }
     set_to(p, f, feature::steps::setting_of(f, w, o))
 }
@@ -519,7 +519,7 @@ fn change_applications(p: Port, w: Switches, o: &[u8]) -> Event
 {
     let revision = p.revision;
     if !tlv::has_applications(revision) {
-        return refuse(Refusal::UnknownFeature, 0, p);
+        return refuse(Refusal::UnknownFeature, p);
     }
     change_feature(p, Feature::Applications, w, o)
 }
@@ -537,7 +537,7 @@ pub fn change_setting(p: Port, number: u8, w: Switches, o: &[u8]) -> Event
     if number == 4 {
         return change_applications(p, w, o);
     }
-    refuse(Refusal::UnknownFeature, 0, p)
+    refuse(Refusal::UnknownFeature, p)
 }
 
 // The port of three settings that are valid, in the place of another.
@@ -568,13 +568,13 @@ fn create_with(
     ensures { λ r. ⌜ r ≡ createdWith v (three g w a) (three (now (gp .entry)) (now (wp .entry)) (now (ap .entry))) p ⌝ }
 {
     if !parameters::valid_local(Feature::Groups, gp) {
-        return refuse(Refusal::InvalidSetting, 0, p);
+        return refuse(Refusal::InvalidSetting, p);
     }
     if !parameters::valid_local(Feature::Flow, wp) {
-        return refuse(Refusal::InvalidSetting, 0, p);
+        return refuse(Refusal::InvalidSetting, p);
     }
     if !parameters::valid_local(Feature::Applications, ap) {
-        return refuse(Refusal::InvalidSetting, 0, p);
+        return refuse(Refusal::InvalidSetting, p);
     }
     let x = feature::steps::setting_of(Feature::Groups, g, gp);
     let y = feature::steps::setting_of(Feature::Flow, w, wp);

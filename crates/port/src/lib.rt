@@ -17,7 +17,7 @@ pub enum Flag {
 }
 
 // The control state; `rcvd` is RcvdAckNo, `seen` says that a peer was seen, `duplicate` that duplicate control is marked, `broken`
-// that the last frame had a broken control (02, E1).
+// that the last frame since the fresh state had a broken control (02, E1).
 pub struct Control {
     pub max: u8,
     pub oper: u8,

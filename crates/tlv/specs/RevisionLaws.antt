@@ -6,7 +6,8 @@ use mathlib.Core.Bool.{Bool, true, false, not, false≢true}
 use mathlib.Core.List.{List}
 use lib.ListN.{length}
 use borrow.Author.Tests.{eqb-true}
-use Rattle.octets.specs.Words.{if_then_else_, _is_}
+use Rattle.octets.specs.Words.{if_then_else_, _below_, _is_}
+use Rattle.octets.specs.Octets.{at}
 use Rattle.tlv.specs.declared.Revision.{Revision}
 use Rattle.tlv.specs.declared.Revision.the-variants.{Rev101, Rev10}
 use Rattle.tlv.specs.declared.Contents.{Contents}
@@ -15,9 +16,10 @@ use Rattle.tlv.specs.declared.Head.the-variants.{End, Past, SubTlv}
 use Rattle.tlv.specs.declared.Reading.{Reading}
 use Rattle.tlv.specs.declared.Reading.the-variants.{Refused, Accepted}
 use Rattle.tlv.specs.declared.Refusal.{Refusal}
-use Rattle.tlv.specs.Layout.{Walked, headAt, counts, foundAgain, notedBy, noted, nothingFound, noContents, onward, walkFrom, walked, readFrame}
+use Rattle.tlv.specs.declared.Refusal.the-variants.{NotDcbx, WrongLength, PastEnd, NoControl, ControlLength, ControlVersion}
+use Rattle.tlv.specs.Layout.{Walked, lengthAt, headAt, counts, foundAgain, noted, nothingFound, noContents, onward, walkFrom, walked, headOf, isDcbx, judgedControl, readFrame}
 use Rattle.tlv.specs.Promises.{Inside, ReadPromise, ReadsFor}
-use Rattle.tlv.specs.Revisions.{hasApplications, withoutApplications, skipping, readFor, notedBut4, onwardBut4, walkBut4, Skips}
+use Rattle.tlv.specs.Revisions.{hasApplications, withoutApplications, skipping, readFor, notedBut4, onwardBut4, walkBut4, readBut4, Skips}
 
 -- ---- the code's ways out
 
@@ -109,8 +111,51 @@ walk-but-4 (suc k) o i c = by (λ j d. walk-but-4 k o j d) (headAt o i)
     by later Past = record { place = refl; past = refl; contents = refl }
     by later (SubTlv type start n) = rw (noted-but-4 o c type start n) (later (start + n) (noted o c type start n))
 
-pub skips : (o : List ℕ) → Skips o
-unfolding walked
+-- refusals 6 to 8 do not look at applications
+judged-skips : (o : List ℕ) (c : Contents) → skipping (judgedControl o c) ≡ judgedControl o (withoutApplications c)
+unfolding judgedControl skipping
+judged-skips o c =
+    by (c .control .count is 0) (1 below c .control .count) (c .control .length is 10) (at o (c .control .start + 1) below at o (c .control .start))
+  where
+    by : (a b d e : Bool) →
+        skipping
+        (if a then Refused NoControl (length o)
+        else if b then Accepted c
+        else if not d then Refused ControlLength (headOf (c .control))
+        else if e then Refused ControlVersion (headOf (c .control))
+        else Accepted c)
+        ≡ (if a then Refused NoControl (length o)
+        else if b then Accepted (withoutApplications c)
+        else if not d then Refused ControlLength (headOf (c .control))
+        else if e then Refused ControlVersion (headOf (c .control))
+        else Accepted (withoutApplications c))
+    by true b d e = refl
+    by false true d e = refl
+    by false false false e = refl
+    by false false true true = refl
+    by false false true false = refl
+
+pub skips : Skips
+unfolding readFor readFrame readBut4 walked skipping
 skips o =
     let w = walk-but-4 (length o) o 6 noContents in
-    record { place = w .place; past = w .past; contents = w .contents }
+    by (isDcbx o) (lengthAt o 0 + 2 is length o) (walked o .past)
+    ∙ (λ i. if not (isDcbx o) then Refused NotDcbx 0
+    else if not (lengthAt o 0 + 2 is length o) then Refused WrongLength 0
+    else if sym (w .past) i then Refused PastEnd (sym (w .place) i)
+    else judgedControl o (sym (w .contents) i))
+  where
+    by : (a b d : Bool) →
+        skipping
+        (if not a then Refused NotDcbx 0
+        else if not b then Refused WrongLength 0
+        else if d then Refused PastEnd (walked o .place)
+        else judgedControl o (walked o .contents))
+        ≡ (if not a then Refused NotDcbx 0
+        else if not b then Refused WrongLength 0
+        else if d then Refused PastEnd (walked o .place)
+        else judgedControl o (withoutApplications (walked o .contents)))
+    by false b d = refl
+    by true false d = refl
+    by true true true = refl
+    by true true false = judged-skips o (walked o .contents)

@@ -2,7 +2,7 @@
 -- type".
 use Prim.Native.Nat.{ℕ, zero, suc, _+_}
 use mathlib.Core.Path.{_≡_}
-use mathlib.Core.Bool.{Bool, true, false}
+use mathlib.Core.Bool.{Bool, true, false, not}
 use mathlib.Core.List.{List}
 use lib.ListN.{length}
 use Rattle.octets.specs.Words.{if_then_else_, _is_}
@@ -13,7 +13,8 @@ use Rattle.tlv.specs.declared.Head.{Head}
 use Rattle.tlv.specs.declared.Head.the-variants.{End, Past, SubTlv}
 use Rattle.tlv.specs.declared.Reading.{Reading}
 use Rattle.tlv.specs.declared.Reading.the-variants.{Refused, Accepted}
-use Rattle.tlv.specs.Layout.{Walked, headAt, noted, nothingFound, noContents, walked, readFrame}
+use Rattle.tlv.specs.declared.Refusal.the-variants.{NotDcbx, WrongLength, PastEnd}
+use Rattle.tlv.specs.Layout.{Walked, lengthAt, headAt, noted, nothingFound, noContents, isDcbx, judgedControl, readFrame}
 
 unfoldable pub hasApplications : Revision → Bool
 hasApplications Rev101 = true
@@ -27,7 +28,8 @@ unfoldable pub skipping : Reading → Reading
 skipping (Refused why place) = Refused why place
 skipping (Accepted c) = Accepted (withoutApplications c)
 
--- the reader, told the revision. No refusal depends on type 4, so what is found of it is left out at the end.
+-- the reader, told the revision. No refusal depends on type 4, so what is found of it is left out at the end; `Skips` says that this is to
+-- skip it.
 unfoldable pub readFor : Revision → List ℕ → Reading
 readFor Rev101 o = readFrame o
 readFor Rev10 o = skipping (readFrame o)
@@ -46,8 +48,17 @@ unfoldable pub walkBut4 : ℕ → List ℕ → ℕ → Contents → Walked
 walkBut4 zero o i c = record { place = i; past = false; contents = c }
 walkBut4 (suc k) o i c = onwardBut4 o i (headAt o i) c (λ j d. walkBut4 k o j d)
 
--- it ends where the whole walk does, and finds the same, applications aside
-pub record Skips (o : List ℕ) : Type 0 where
-  pub place : walkBut4 (length o) o 6 noContents .place ≡ walked o .place
-  pub past : walkBut4 (length o) o 6 noContents .past ≡ walked o .past
-  pub contents : walkBut4 (length o) o 6 noContents .contents ≡ withoutApplications (walked o .contents)
+abbrev pub walkedBut4 : List ℕ → Walked
+walkedBut4 o = walkBut4 (length o) o 6 noContents
+
+-- refusals 3 to 8 by that walk, as `readFrame` has them by the whole one
+unfoldable pub readBut4 : List ℕ → Reading
+readBut4 o =
+    if not (isDcbx o) then Refused NotDcbx 0
+    else if not (lengthAt o 0 + 2 is length o) then Refused WrongLength 0
+    else if walkedBut4 o .past then Refused PastEnd (walkedBut4 o .place)
+    else judgedControl o (walkedBut4 o .contents)
+
+-- reading for 1.0 is reading by that walk
+abbrev pub Skips : Type 0
+Skips = (o : List ℕ) → readFor Rev10 o ≡ readBut4 o

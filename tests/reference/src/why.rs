@@ -83,13 +83,14 @@ fn flow(octets: &[u8]) -> Result<(), Why> {
 
 fn applications(octets: &[u8]) -> Result<(), Why> {
     fails(!octets.len().is_multiple_of(6), Why::NoMultiple { octets: octets.len() })?;
-    let count = octets.len() / 6;
-    fails(count > MOST_ENTRIES, Why::Entries(count))?;
     let entries = || (1..).zip(octets.chunks_exact(6));
     for (place, entry) in entries() {
         let ours = [entry[2] & !3, entry[3], entry[4]] == OUI;
         fails(!ours, Why::Foreign { entry: place })?;
     }
+    // Foreign entries are skipped before the limit is counted, so one of them is told first.
+    let count = octets.len() / 6;
+    fails(count > MOST_ENTRIES, Why::Entries(count))?;
     for (second, entry) in entries() {
         // Where the OUI is ours, these three octets are the id and the selector.
         let mut earlier = entries().take(second - 1);

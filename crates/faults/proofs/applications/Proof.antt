@@ -7,17 +7,17 @@ use Rattle.faults.proofs.applications.Tie as tie
 returns : tie.Need-returns
 returns c = search entries-ragged
 
-returns-2 : tie.Need-returns-2
-returns-2 c = search entries-many
-
 foreign-entry-requires : tie.Need-foreign-entry-requires
 foreign-entry-requires c κs = search needs
 
 add-t9 : tie.Need-add-t9
 add-t9 c = search needs
 
+returns-2 : tie.Need-returns-2
+returns-2 c = search entries-foreign
+
 returns-3 : tie.Need-returns-3
-returns-3 c = search entries-foreign
+returns-3 c = search entries-many
 
 second-entry-requires : tie.Need-second-entry-requires
 second-entry-requires c κs = search needs
@@ -54,9 +54,9 @@ applications-spec =
     tie.close
     (tie.spec
     returns
-    returns-2
     foreign-entry-requires
     add-t9
+    returns-2
     returns-3
     second-entry-requires
     first-entry-requires
