@@ -273,7 +273,7 @@ fn judge_value(f: Feature, s: Setting, desired: &[u8], oper: u8, value: &[u8]) -
 }
 
 // The outcome rules, first that applies: `count` sub-TLVs of the feature came, and `value` is that of the last. `desired` are the
-// setting's own parameters, lent by the caller: a copy of the setting would be lent here, and made for it.
+// setting's own parameters, lent by the caller, as the `requires` says: a copy of the setting would be lent here, and made for it.
 pub fn decide(
     f: Feature,
     max: u8,

@@ -169,7 +169,7 @@ fn receive(f: Feature, x: State, rcvd: u32, seq: u32, count: u8, value: &[u8], d
 }
 
 // Steps 1 to 5 for one feature. `d` is what the outcome rules decide: it is decided before, whatever the course, so that this is
-// short enough to be inlined for each feature.
+// short enough to be inlined for each feature; hence the `requires`, for `handling` alone.
 pub fn handle(
     f: Feature,
     x: State,
@@ -432,7 +432,7 @@ fn put_header(out: &mut [u8], at: usize, kind: u8, size: u8, oper: u8, max: u8, 
     out[at + 5] = 0;
 }
 
-// Writes the sub-TLV at `at`; the caller has made room for it by its length.
+// Writes the sub-TLV at `at`. The caller has refused a short output before, by the frame's length; hence the `requires`.
 pub fn put_sub_tlv(out: &mut [u8], at: usize, f: Feature, x: State)
     requires { ⌜ at + length (subTlv f x) ≤ length (now out) ⌝ }
     ensures { λ _. ⌜ now (out .exit) ≡ sets (now (out .entry)) at (subTlv f x) ⌝ }

@@ -316,7 +316,7 @@ fn apply(p: Port, k: Change, s: &[u8], c: Contents) -> Port
 }
 
 // What a frame does of which `admit` says that it is accepted. A caller that has a refusal of its own calls `admit` and this, and
-// not `handle`: an event that comes on several ways is copied once more behind them.
+// not `handle`: an event that comes on several ways is copied once more behind them. The `requires` is what `admit` ensures.
 pub fn accept(p: Port, s: &[u8], c: Contents) -> Event
     requires { ⌜ Admits p (now s) (Accepted c) ⌝ }
     ensures { λ r. ⌜ r ≡ handled p (now (s .entry)) ⌝ }

@@ -11,7 +11,8 @@ fn wide(x: u8) -> u32
     x as u32
 }
 
-// The number at `at`; octets past the end count as 0. The caller's places are below a million.
+// The number at `at`; octets past the end count as 0. The caller's places are below a million, so that
+// the sum cannot wrap: hence the `requires`.
 pub fn number4(s: &[u8], at: usize) -> u32
     requires { ⌜ at ≤ 1000000 ⌝ }
     ensures { λ r. ⌜ r ≡ number4 (now (s .entry)) at ⌝ }
@@ -23,7 +24,7 @@ pub fn number4(s: &[u8], at: usize) -> u32
     a * 16777216 + b * 65536 + c * 256 + d
 }
 
-// Writes the number at `at`, where the caller has room for it.
+// Writes the number at `at`. The caller has refused a short output before; hence the `requires`.
 pub fn put4(out: &mut [u8], at: usize, n: u32)
     requires { ⌜ at + 4 ≤ length (now out) ⌝ }
     ensures { λ _. ⌜ now (out .exit) ≡ sets (now (out .entry)) at (octets4 n) ⌝ }
@@ -34,7 +35,7 @@ pub fn put4(out: &mut [u8], at: usize, n: u32)
     out[at + 3] = (n % 256) as u8;
 }
 
-// Writes the octets `s` at `at`, where the caller has room for them.
+// Writes the octets `s` at `at`. The caller has refused a short output before; hence the `requires`.
 pub fn put(out: &mut [u8], at: usize, s: &[u8])
     requires { ⌜ at + length (now s) ≤ length (now out) ⌝ }
     ensures { λ _. ⌜ now (out .exit) ≡ sets (now (out .entry)) at (now (s .entry)) ⌝ }

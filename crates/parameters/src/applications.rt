@@ -18,6 +18,7 @@ fn id_of(p: &[u8], i: usize) -> usize
     high * 256 + low
 }
 
+// The selector of entry i. Here and below the caller walks over the entries that there are; hence the `requires`.
 pub fn selector_of(p: &[u8], i: usize) -> u8
     requires { ⌜ i < entryCount (now p) ⌝ }
     ensures { λ r. ⌜ r ≡ selectorOf (now (p .entry)) i ⌝ }

@@ -40,7 +40,7 @@ fn good_halves(s: &[u8]) -> bool
     true
 }
 
-// The sum of the percentages; of eight octets it fits.
+// The sum of the percentages; of at most eight octets, which the `requires` asks for, it fits.
 pub fn sum(s: &[u8]) -> usize
     requires { ⌜ length (now s) ≤ 8 ⌝ }
     ensures { λ r. ⌜ r ≡ sum (now (s .entry)) ⌝ }

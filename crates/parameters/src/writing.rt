@@ -15,7 +15,7 @@ pub fn size(p: Parameters) -> usize
     content.len()
 }
 
-// Writes them at `at`, where the caller has room for them.
+// Writes them at `at`. The caller has refused a short output before; hence the `requires`.
 pub fn put(out: &mut [u8], at: usize, p: Parameters)
     requires { ⌜ at + length (content p) ≤ length (now out) ⌝ }
     ensures { λ _. ⌜ now (out .exit) ≡ sets (now (out .entry)) at (content p) ⌝ }

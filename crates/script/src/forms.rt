@@ -365,7 +365,7 @@ fn entries_length(n: usize) -> usize
     (n - 6) / 3 * 6
 }
 
-// How many octets the parameters have, of as many words as a form can have.
+// How many octets the parameters have, of as many words as a form can have, which the `requires` bounds.
 pub fn parameter_count(f: Form, n: usize) -> usize
     requires { ⌜ n ≤ 57 ⌝ }
     ensures { λ r. ⌜ (r ≡ parameterCount f n) × (r ≤ 102) ⌝ }

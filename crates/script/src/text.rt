@@ -131,7 +131,7 @@ pub fn hex_digits(w: &[u8]) -> bool
     good
 }
 
-// Octet `i` of a run of pairs of hex digits, of as many as a line can hold.
+// Octet `i` of a run of pairs of hex digits, of as many as a line can hold, so that its place cannot wrap: hence the `requires`.
 pub fn pair_at(w: &[u8], i: usize) -> u8
     requires { ⌜ i < 1024 ⌝ }
     ensures { λ r. ⌜ r ≡ pairAt (now (w .entry)) i ⌝ }

@@ -395,7 +395,7 @@ fn walk_on(s: &[u8], base: usize, w: Walk) -> Reading
     }
 }
 
-// Goes on to the end, over the octets from the walk's place on, as `pass_sub_tlv` takes them.
+// Goes on to the end, over the octets from the walk's place on, as `pass_sub_tlv` takes them, and with its `requires`.
 pub fn finish_walk(w: Walk, rest: &[u8]) -> Reading
     requires { ⌜ w .at + length (now rest) < 2 ^ 64 ⌝ }
     ensures { λ r. ⌜ r ≡ finished w (now (rest .entry)) ⌝ }

@@ -39,7 +39,8 @@ pub fn put4(out: &mut [u8], at: usize, n: u32) -> usize {
     put_all(out, at, &octets)
 }
 
-// The end of a part of `room` octets from `at`, which the caller has found to be inside, or of what is there where that is less.
+// The end of a part of `room` octets from `at`, or of what is there where that is less. The caller has found `at` to
+// be inside, hence the `requires`.
 pub fn part_end(all: usize, at: usize, room: usize) -> usize
     requires { ⌜ at ≤ all ⌝ }
     ensures { λ r. ⌜ (at ≤ r) × (r ≤ all) ⌝ }
