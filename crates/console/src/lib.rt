@@ -3,8 +3,8 @@ ghost use mathlib.Core.Path.{_≡_};
 ghost use Prim.Native.Nat.{_+_, _-_, _≤_};
 ghost use lib.ListN.{length};
 
+pub mod answers;
 pub mod arguments;
-pub mod events;
 pub mod settings;
 
 const LINE_FEED: u8 = 10;

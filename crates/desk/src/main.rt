@@ -100,17 +100,17 @@ fn run(input: &mut [u8], output: &mut [u8], start: Recorder, first: Lines, behin
         let from = report::ports::first(output, p.at, w.given, w.number);
         let i = recorder::place_of(w.number);
         if script::is_frame(said) {
-            let e = console::events::handle(w.number, held.ports[i], said);
+            let e = console::answers::handle(w.number, held.ports[i], said);
             let port = e.port;
             held.ports[i] = port;
             if !recorder::is_silent(e.notices) {
                 let log = recorder::keep(held.log, w.number, e.notices);
                 held.log = log;
             }
-            at = console::events::answered(output, from, w, e);
+            at = console::answers::answered(output, from, w, e);
             continue;
         }
-        let s = console::events::event(
+        let s = console::answers::event(
             output,
             from,
             w,

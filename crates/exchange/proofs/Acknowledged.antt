@@ -1,85 +1,20 @@
--- RcvdAckNo = SeqNo says that the peer has answered what an end writes now: whichever calls were made, that end then has the outcome
--- that the rules give of the two settings alone. Assumes nothing.
+-- Where RcvdAckNo = SeqNo at both ends, each has answered what the other offers now: whichever calls were made, both then have the
+-- outcome that the rules give of the two settings alone. Assumes nothing.
 use Prim.Native.Nat.{ℕ, min}
-use native.Mathlib.Nat.{min-comm}
-use native.Mathlib.Omega.{arith}
-use mathlib.Core.Path.{_≡_, refl, sym, ap, _∙_, subst}
-use mathlib.Core.Logic.{_⊎_, inl, inr, ⊎-elim}
-use mathlib.Core.Bool.{Bool, true, false, _&&_, or-true, false≢true}
+use mathlib.Core.Path.{_≡_, refl, sym, _∙_, subst}
+use mathlib.Core.Logic.{⊎-elim}
+use mathlib.Core.Bool.{Bool, true, false, false≢true}
 use mathlib.Core.List.{List}
 use mathlib.Core.Option.{Option, none, some}
-use borrow.Author.Tests.{eq-eqb, eqb-true}
-use Rattle.octets.specs.Words.{_is_}
-use Rattle.octets.specs.Laws.{and-right}
-use Rattle.parameters.specs.declared.Feature.{Feature}
-use Rattle.feature.specs.declared.Outcome.{Outcome}
 use Rattle.feature.specs.State.{next}
 use Rattle.handling.specs.Handling.{Message}
-use Rattle.handling.proofs.Tests.{is-same, or-cases}
-use Rattle.exchange.specs.Rounds.{left, right, Call, refused, writes, handles, ruled, alone}
-use Rattle.exchange.proofs.Core.{Settings, advertised, Machine, Core, message, changed, synced, marked, sent, features, started, gated, recv}
-use Rattle.exchange.proofs.Outcomes.{version, version-is, error-final, outcome-final, same-oper}
-use Rattle.exchange.proofs.Numbers.{All-synced, sent-none, sent-wait, sent-acked, new-out, feature-is}
-use Rattle.exchange.proofs.Stages.{Fit, Low, Bound, Full, Concluded, bound-of, out-is, version-next}
-use Rattle.exchange.proofs.FirstRound.{start-asks}
+use Rattle.exchange.specs.Rounds.{left, right, Call, refused, writes, handles}
+use Rattle.exchange.proofs.Core.{Settings, Core, message, features, started, gated, recv}
+use Rattle.exchange.proofs.Numbers.{next-other, Marked, raises-cases, All-synced, All-shown, All-marked, to-marked, shown-all, Stays, stays, keeps-marked, raised-shown, skipped, skipped-all}
+use Rattle.exchange.proofs.Stages.{Fit, present, Bound, bound-fresh, Version, Error, Low, Answers, Concluded, bound-of, version-shown, error-shown, answers-version, answers-error, answers-full, answers-next, After0}
+use Rattle.exchange.proofs.FirstRound.{fresh-synced}
 use Rattle.exchange.proofs.FirstRound as first
 use Rattle.exchange.proofs.Pairs.{Pair, given, step, run, begin, run-keeps}
-
-next-other : (n : ℕ) → next n ≡ n → ⊥
-next-other n e = omega arith
-
--- ---- one feature of the end
-
--- the feature is written as in every frame with this SeqNo: it is Syncd, or was asked for under it
-abbrev Current : ℕ → Machine → Type 0
-Current seq x = (x .syncd ≡ true) ⊎ (x .sequence ≡ seq)
-
--- or it changed since, and waits for the next
-abbrev Marked : ℕ → Machine → Type 0
-Marked seq x = Current seq x ⊎ (x .sequence ≡ next seq)
-
--- the same of an equal number and machine
-moved : (P : ℕ → Machine → Type 0) {n k : ℕ} {x y : Machine} → n ≡ k → x ≡ y → P n x → P k y
-moved P {n} {k} {x} {y} e d h = subst (λ z. P z y) e (subst (P n) d h)
-
-module _ (o : Outcome) (x : Machine) (rcvd seq : ℕ) where
-  abbrev after : Bool → Machine
-  after changes = marked changes seq o (synced rcvd seq x)
-
-  current-before : (c : Bool) → Current seq (after c) → (c ≡ false) × Current seq x
-  unfolding marked synced
-  current-before true (inl e) = absurd (false≢true e)
-  current-before true (inr e) = absurd (next-other seq e)
-  current-before false (inl e) = (
-    refl,
-    ⊎-elim inl (λ h. inr (eqb-true (x .sequence) seq (and-right (x .sequence is rcvd) (x .sequence is seq) h)))
-        (or-cases (x .syncd) (x .sequence is rcvd && x .sequence is seq) e),
-  )
-  current-before false (inr e) = (refl, inr e)
-
-  marked-after : (c : Bool) → Marked seq x → Marked seq (after c)
-  unfolding marked synced
-  marked-after true h = inr refl
-  marked-after false (inl (inl e)) = inl (inl (rw e))
-  marked-after false (inl (inr e)) = inl (inr e)
-  marked-after false (inr e) = inr e
-
-  -- SeqNo is acknowledged and goes up: all that changed meanwhile is asked for under the new one
-  current-raised : rcvd ≡ seq → (c : Bool) → Marked seq x → Current (next seq) (after c)
-  unfolding marked synced
-  current-raised r true h = inr refl
-  current-raised r false (inl (inl e)) = inl (rw e)
-  current-raised r false (inl (inr e)) = inl (rw (e, r, is-same seq) (or-true (x .syncd)))
-  current-raised r false (inr e) = inr e
-
--- the send rule: SeqNo stays, and where it is acknowledged nothing is left to ask; or it was acknowledged and goes up
-sent-cases : (s : Settings) (x : Feature → Machine) (r q : ℕ) →
-    ((sent s x r q ≡ q) × (r ≡ q → All-synced s x)) ⊎ ((sent s x r q ≡ next q) × (r ≡ q))
-sent-cases s x r q = by (r is q) refl
-  where
-    by : (b : Bool) → (r is q) ≡ b → ((sent s x r q ≡ q) × (r ≡ q → All-synced s x)) ⊎ ((sent s x r q ≡ next q) × (r ≡ q))
-    by true e = ⊎-elim (λ h. inl (h .0, λ k. h .1)) (λ h. inr (h, eqb-true r q e)) (sent-acked s x r q e)
-    by false e = inl (sent-wait s x r q e, λ k. absurd (false≢true (sym e ∙ eq-eqb r q k)))
 
 -- ---- what an end `p` and its peer know of each other
 
@@ -93,171 +28,98 @@ carried-map s P Q k none h = tt
 carried-map s P Q k (some m) h = (h .0, h .1, k (h .0) (h .2))
 
 module _ (s t : Settings) (p : Core) where
-  abbrev lowest : Feature → ℕ
-  lowest f = min (s .of f .max) (t .of f .max)
-
-  -- what `p` wrote last, as `w`, beside the peer's AckNo: under the present SeqNo it says what would be written now
+  -- what `p` wrote last, as `w`, beside the peer's AckNo: under the present SeqNo it offers what is offered now
   record Told (ack : ℕ) (w : Core) : Type 0 where
-    pub bound : Bound s t w
+    pub bound : Bound s (w .offer)
     pub latest : ack ≡ p .seq → w .seq ≡ p .seq
-    pub same : w .seq ≡ p .seq → (f : Feature) → advertised s f ≡ true → Current (p .seq) (p .feat f) → w .feat f .outcome .oper ≡ p .feat f .outcome .oper
-
-  -- the outcome of a peer that has handled what `p` writes of the feature now
-  record Answer (f : Feature) (o : Outcome) : Type 0 where
-    pub oper : o .oper ≡ lowest f
-    pub error : p .feat f .outcome .oper ≡ lowest f → o .error ≡ ruled f (t .of f) (s .of f) false .error
-
-  -- whoever acknowledges the present SeqNo has done so
-  abbrev Answers : Core → Type 0
-  Answers q =
-      q .ack ≡ p .seq → (f : Feature) → advertised s f ≡ true → advertised t f ≡ true → Current (p .seq) (p .feat f) → Answer f (q .feat f .outcome)
+    pub same : w .seq ≡ p .seq → w .offer ≡ p .offer
 
   -- what the peer wrote last, as `q`, beside its present AckNo
-  record Answered (ack : ℕ) (q : Core) : Type 0 where
-    pub bound : Bound t s q
+  record Heard (ack : ℕ) (q : Core) : Type 0 where
+    pub bound : Bound t (q .offer)
     pub latest : q .ack ≡ p .seq → ack ≡ p .seq
-    pub answers : Answers q
 
-  -- what every call keeps
+  -- what every call keeps. `answers`: a peer that has handled nothing yet either asks for something, its RcvdAckNo then not being its
+  -- SeqNo, or advertises nothing
   record Known (q : Core) (from-p from-q : Option Message) : Type 0 where
     pub low : p .seen ≡ true → Low s t p
-    pub bound : Bound s t p
-    pub marks : (f : Feature) → advertised s f ≡ true → Marked (p .seq) (p .feat f)
-    pub synced : p .rcvd ≡ p .seq → All-synced s (p .feat)
-    pub full : p .rcvd ≡ p .seq → Full s t p
+    pub bound : Bound s (p .offer)
+    pub marks : All-marked p
+    pub synced : p .rcvd ≡ p .seq → All-synced (p .feat)
+    pub reached : p .rcvd ≡ p .seq → q .ack ≡ p .seq
     pub told : Carried s (Told (q .ack)) from-p
-    pub answers : Answers q
-    pub answered : Carried t (Answered (q .ack)) from-q
-
-concluded : (s t : Settings) (p q : Core) (from-p from-q : Option Message) → Known s t p q from-p from-q →
-    p .seen ≡ true → p .rcvd ≡ p .seq → Concluded s t p
-concluded s t p q from-p from-q h e d = record { low = h .low e; seen = e; rcvd = d; synced = h .synced d; full = h .full d }
+    pub heard : Carried t (Heard (q .ack)) from-q
+    pub answers : q .ack ≡ p .seq → q .rcvd ≡ q .seq → Answers t s q (p .offer)
 
 -- ---- the end handles a message
 
--- SeqNo stays, and with it all that is current
-module _ (s t : Settings) (p p′ : Core) (e : p′ .seq ≡ p .seq)
-    (k : (f : Feature) → advertised s f ≡ true → Current (p′ .seq) (p′ .feat f) → Current (p .seq) (p .feat f) × (p′ .feat f .outcome .oper ≡ p .feat f .outcome .oper)) where
-  told-stays : (ack : ℕ) (w : Core) → Told s t p ack w → Told s t p′ ack w
-  told-stays ack w h =
+module _ (s t : Settings) (p p′ q : Core) (from-p from-q : Option Message) (h : Known s t p q from-p from-q) where
+  -- SeqNo stays, and with it what is offered
+  known-stays : Stays p p′ → (p′ .seen ≡ true → Low s t p′) → All-marked p′ → (p′ .rcvd ≡ p .seq → All-synced (p′ .feat)) → (p′ .rcvd ≡ p .seq → q .ack ≡ p .seq) →
+      Known s t p′ q from-p from-q
+  known-stays e l m a r =
       record {
-        bound = h .bound;
-        latest = λ d. h .latest (d ∙ e) ∙ sym e;
-        same = λ d f a c. let j = k f a c in h .same (d ∙ e) f a (j .0) ∙ sym (j .1);
+        low = l;
+        bound = subst (Bound s) (sym (e .offer)) (h .bound);
+        marks = m;
+        synced = λ d. a (d ∙ e .seq);
+        reached = λ d. r (d ∙ e .seq) ∙ sym (e .seq);
+        told =
+            carried-map s _ _
+            (λ w k. record { bound = k .bound; latest = λ d. k .latest (d ∙ e .seq) ∙ sym (e .seq); same = λ d. k .same (d ∙ e .seq) ∙ sym (e .offer) })
+            from-p (h .told);
+        heard = carried-map t _ _ (λ x k. record { bound = k .bound; latest = λ d. k .latest (d ∙ e .seq) ∙ sym (e .seq) }) from-q (h .heard);
+        answers = λ d g. subst (Answers t s q) (sym (e .offer)) (h .answers (d ∙ e .seq) g);
       }
 
-  answers-stay : (q : Core) → Answers s t p q → Answers s t p′ q
-  answers-stay q h d f a b c =
-      let j = k f a c in
-      let g : Answer s t p f (q .feat f .outcome) = h (d ∙ e) f a b (j .0) in
-      record { oper = g .oper; error = λ v. g .error (sym (j .1) ∙ v) }
+  -- SeqNo goes up: nobody has seen the new one
+  module _ (e : p′ .seq ≡ next (p .seq)) where
+    unseen : {A : Type 0} (n : ℕ) → n ≡ p .seq → n ≡ p′ .seq → A
+    unseen n d g = absurd (next-other (p .seq) (sym e ∙ sym g ∙ d))
 
-  answered-stays : (ack : ℕ) (q : Core) → Answered s t p ack q → Answered s t p′ ack q
-  answered-stays ack q h = record { bound = h .bound; latest = λ d. h .latest (d ∙ e) ∙ sym e; answers = answers-stay q (h .answers) }
-
--- SeqNo goes up: nobody has seen the new one
-module _ (s t : Settings) (p p′ : Core) (e : p′ .seq ≡ next (p .seq)) where
-  unseen : {A : Type 0} (n : ℕ) → n ≡ p .seq → n ≡ p′ .seq → A
-  unseen n d g = absurd (next-other (p .seq) (sym e ∙ sym g ∙ d))
-
-  told-raised : (ack : ℕ) → ack ≡ p .seq → (w : Core) → Told s t p ack w → Told s t p′ ack w
-  told-raised ack d w h = record { bound = h .bound; latest = unseen ack d; same = unseen (w .seq) (h .latest d) }
-
-  answered-raised : (ack : ℕ) (q : Core) → q .ack ≡ p .seq → Answered s t p ack q → Answered s t p′ ack q
-  answered-raised ack q d h = record { bound = h .bound; latest = unseen (q .ack) d; answers = unseen (q .ack) d }
+    known-raised : (p′ .seen ≡ true → Low s t p′) → Bound s (p′ .offer) → All-shown p′ → p′ .rcvd ≡ p .seq → q .ack ≡ p .seq →
+        Carried t (λ x. Bound t (x .offer) × (x .ack ≡ p .seq)) from-q → Known s t p′ q from-p from-q
+    known-raised l b m d r k =
+        record {
+          low = l;
+          bound = b;
+          marks = to-marked p′ m;
+          synced = unseen (p′ .rcvd) d;
+          reached = unseen (p′ .rcvd) d;
+          told =
+              carried-map s _ _ (λ w j. record { bound = j .bound; latest = unseen (q .ack) r; same = unseen (w .seq) (j .latest r) }) from-p (h .told);
+          heard = carried-map t _ _ (λ x j. record { bound = j .0; latest = unseen (x .ack) (j .1) }) from-q k;
+          answers = unseen (q .ack) r;
+        }
 
 module _ (s t : Settings) (good : Fit t) (p q q₀ : Core) (from-p : Option Message)
-    (h : Known s t p q from-p (some (message t q₀))) (r : Answered s t p (q .ack) q₀) where
+    (h : Known s t p q from-p (some (message t q₀))) (r : Heard s t p (q .ack) q₀) where
   abbrev low : ℕ
   low = min (s .max) (t .max)
 
   abbrev m : Message
   m = message t q₀
 
-  -- past step 2
-  abbrev p′ : Core
-  p′ = gated true low s p m
+  abbrev handled : Bool → Core
+  handled b = gated b low s p m
 
-  oper-next : (f : Feature) → advertised s f ≡ true → p′ .feat f .outcome .oper ≡ version (advertised t f) (s .of f) (t .of f)
-  oper-next = version-next s t p q₀ low good (r .bound)
+  version-handled : Version s t (present (handled true))
+  version-handled = answers-version s t (handled true) (q₀ .offer) (answers-next s t p q₀ low good (r .bound)) (r .bound)
 
-  module _ (e : p′ .seq ≡ p .seq) where
-    stays : (f : Feature) → advertised s f ≡ true → Current (p′ .seq) (p′ .feat f) → Current (p .seq) (p .feat f) × (p′ .feat f .outcome .oper ≡ p .feat f .outcome .oper)
-    unfolding gated message
-    stays f a c =
-        let o : Outcome = new-out s low p m f in
-        let j : (changed (p .feat f .outcome) o ≡ false) × Current (p .seq) (p .feat f) =
-        current-before o (p .feat f) (q₀ .ack) (p .seq) (changed (p .feat f .outcome) o)
-        (moved Current e (feature-is s low p m f a) c) in
-        (j .1, ap (λ (o : Outcome). o .oper) (out-is s t p q₀ low f a) ∙ sym (same-oper (p .feat f .outcome) o (j .0)))
-
-    -- the peer acknowledged the present SeqNo, and all is Syncd: the outcome is final
-    full-next : q₀ .ack ≡ p .seq → All-synced s (p′ .feat) → Full s t p′
-    unfolding alone version
-    full-next d k f a =
-        let j = stays f a (inl (k f a)) in
-        let g : advertised t f ≡ true → Answer s t p f (q₀ .feat f .outcome) = λ b. r .answers d f a b (j .0) in
-        out-is s t p q₀ low f a
-        ∙ outcome-final (advertised t f) f (s .of f) (t .of f) _ (q₀ .feat f .outcome) _ (good f) refl (λ b. g b .oper)
-        (λ b. g b .error (sym (j .1) ∙ oper-next f a ∙ rw b refl))
-
-    known-stays : (p′ .rcvd ≡ p .seq → All-synced s (p′ .feat)) → Known s t p′ q from-p (some m)
-    unfolding gated message
-    known-stays k =
-        record {
-          low = λ d. refl;
-          bound = bound-of s t p′ oper-next;
-          marks = λ f a. moved Marked (sym e) (sym (feature-is s low p m f a)) (marked-after _ (p .feat f) (q₀ .ack) (p .seq) _ (h .marks f a));
-          synced = λ d. k (d ∙ e);
-          full = λ d. full-next (d ∙ e) (k (d ∙ e));
-          told = carried-map s _ _ (told-stays s t p p′ e stays (q .ack)) from-p (h .told);
-          answers = answers-stay s t p p′ e stays q (h .answers);
-          answered = (q₀, refl, answered-stays s t p p′ e stays (q .ack) q₀ r);
-        }
-
-  known-raised : p′ .seq ≡ next (p .seq) → q₀ .ack ≡ p .seq → Known s t p′ q from-p (some m)
+  known-handled : (b : Bool) → Known s t (handled b) q from-p (some m)
   unfolding gated message
-  known-raised e d =
-      record {
-        low = λ d. refl;
-        bound = bound-of s t p′ oper-next;
-        marks = λ f a. inl (moved Current (sym e) (sym (feature-is s low p m f a)) (current-raised _ (p .feat f) (q₀ .ack) (p .seq) d _ (h .marks f a)));
-        synced = unseen s t p p′ e (q₀ .ack) d;
-        full = unseen s t p p′ e (q₀ .ack) d;
-        told = carried-map s _ _ (told-raised s t p p′ e (q .ack) (r .latest d)) from-p (h .told);
-        answers = unseen s t p p′ e (q .ack) (r .latest d);
-        answered = (q₀, refl, answered-raised s t p p′ e (q .ack) q₀ d r);
-      }
-
+  known-handled true =
+      ⊎-elim
+      (λ k. known-stays s t p (handled true) q from-p (some m) h (stays s low p m (k .0)) (λ d. refl) (keeps-marked s low p m (k .0) (h .marks)) (k .1) (r .latest))
+      (λ k.
+      let j = raised-shown s low p m (k .0) (k .1) (h .marks) in
+      known-raised s t p (handled true) q from-p (some m) h (j .0) (λ d. refl)
+      (bound-of s t (handled true .offer) (version-shown s t (handled true) (j .1) version-handled))
+      (j .1) (k .1) (r .latest (k .1)) (q₀, refl, (r .bound, k .1)))
+      (raises-cases (features s p m) (q₀ .ack) (p .seq))
   -- step 2 ends it: the send rule was done before
-  abbrev met : Core
-  met = gated false low s p m
-
-  met-seq : met .seq ≡ p .seq
-  unfolding gated
-  met-seq = ⊎-elim (λ k. k .0) (λ k. sent-none s (p .feat) (p .rcvd) (p .seq) (h .synced (k .1))) (sent-cases s (p .feat) (p .rcvd) (p .seq))
-
-  known-met : Known s t met q from-p (some m)
-  unfolding gated message
-  known-met =
-      let e : met .seq ≡ p .seq = met-seq in
-      let k : (f : Feature) → advertised s f ≡ true → Current (met .seq) (met .feat f) → Current (p .seq) (p .feat f) × (met .feat f .outcome .oper ≡ p .feat f .outcome .oper) =
-      λ f a c. (moved Current {x = p .feat f} e refl c, refl) in
-      record {
-        low = λ d. refl;
-        bound = h .bound;
-        marks = λ f a. moved Marked {x = p .feat f} (sym e) refl (h .marks f a);
-        synced = λ d. h .synced (d ∙ e);
-        full = λ d. h .full (d ∙ e);
-        told = carried-map s _ _ (told-stays s t p met e k (q .ack)) from-p (h .told);
-        answers = answers-stay s t p met e k q (h .answers);
-        answered = (q₀, refl, answered-stays s t p met e k (q .ack) q₀ r);
-      }
-
-  known-gated : (b : Bool) → Known s t (gated b low s p m) q from-p (some m)
-  unfolding gated message
-  known-gated true = ⊎-elim (λ k. known-stays (k .0) (k .1)) (λ k. known-raised (k .0) (k .1)) (sent-cases s (features s p m) (q₀ .ack) (p .seq))
-  known-gated false = known-met
+  known-handled false =
+      known-stays s t p (handled false) q from-p (some m) h (skipped s low p m (h .synced)) (λ d. refl) (skipped-all s low p m (h .synced) Marked (h .marks)) (h .synced) (h .reached)
 
 -- ---- the four calls
 
@@ -269,101 +131,92 @@ module _ (s t : Settings) (p q : Core) where
         bound = h .bound;
         marks = h .marks;
         synced = h .synced;
-        full = h .full;
-        told = (p, refl, record { bound = h .bound; latest = λ d. refl; same = λ d f a c. refl });
+        reached = h .reached;
+        told = (p, refl, record { bound = h .bound; latest = λ d. refl; same = λ d. refl });
+        heard = h .heard;
         answers = h .answers;
-        answered = h .answered;
       }
 
-  peer-write : (from-p from-q : Option Message) → Bound t s q → Known s t p q from-p from-q → Known s t p q from-p (some (message t q))
+  peer-write : (from-p from-q : Option Message) → Bound t (q .offer) → Known s t p q from-p from-q → Known s t p q from-p (some (message t q))
   peer-write from-p from-q b h =
       record {
         low = h .low;
         bound = h .bound;
         marks = h .marks;
         synced = h .synced;
-        full = h .full;
+        reached = h .reached;
         told = h .told;
+        heard = (q, refl, record { bound = b; latest = λ d. d });
         answers = h .answers;
-        answered = (q, refl, record { bound = b; latest = λ d. d; answers = h .answers });
       }
 
   own-handle : Fit t → (from-p from-q : Option Message) → Known s t p q from-p from-q → Known s t (given s p from-q) q from-p from-q
   unfolding given recv message
   own-handle good from-p none h = h
   own-handle good from-p (some m) h =
-      let k = h .answered in
+      let k = h .heard in
       subst (λ (x : Message). Known s t (recv s p x) q from-p (some x)) (sym (k .1))
-      (known-gated s t good p q (k .0) from-p (subst (λ (x : Message). Known s t p q from-p (some x)) (k .1) h) (k .2) _)
+      (known-handled s t good p q (k .0) from-p (subst (λ (x : Message). Known s t p q from-p (some x)) (k .1) h) (k .2) _)
 
-  module _ (good : Fit s) (w : Core) (from-q : Option Message) (h : Known s t p q (some (message s w)) from-q) (k : Told s t p (q .ack) w) where
-    abbrev q′ : Core
-    q′ = gated true (min (t .max) (s .max)) t q (message s w)
+  module _ (good : Fit s) (asked : q .rcvd ≡ q .seq → All-synced (q .feat)) where
+    module _ (w : Core) (from-q : Option Message) (h : Known s t p q (some (message s w)) from-q) (k : Told s t p (q .ack) w) where
+      abbrev answered : Bool → Core
+      answered b = gated b (min (t .max) (s .max)) t q (message s w)
 
-    -- the peer handles what `p` wrote, and answers it
-    peer-answers : Answers s t p q′
-    unfolding gated message version
-    peer-answers d f a b c =
-        let e = out-is t s q w (min (t .max) (s .max)) f b in
-        record {
-          oper = ap (λ (o : Outcome). o .oper) e ∙ version-is (advertised s f) f (t .of f) (s .of f) _ (w .feat f .outcome) (k .bound f) ∙ rw a (min-comm _ _);
-          error = λ v.
-              ap (λ (o : Outcome). o .error) e
-              ∙ error-final (advertised s f) f (t .of f) (s .of f) _ (w .feat f .outcome) (good f) refl (λ a. k .same d f a c ∙ v ∙ min-comm _ _);
-        }
+      -- the peer handles what `p` wrote, and answers it; or step 2 ends it
+      peer-handled : (b : Bool) → Known s t p (answered b) (some (message s w)) from-q
+      unfolding gated message
+      peer-handled true =
+          record {
+            low = h .low;
+            bound = h .bound;
+            marks = h .marks;
+            synced = h .synced;
+            reached = λ d. k .latest (h .reached d);
+            told = (w, refl, record { bound = k .bound; latest = λ d. d; same = k .same });
+            heard = carried-map t _ _ (λ x y. record { bound = y .bound; latest = λ d. k .latest (y .latest d) }) from-q (h .heard);
+            answers = λ d g. subst (Answers t s (answered true)) (k .same d) (answers-next t s q w (min (t .max) (s .max)) good (k .bound));
+          }
+      peer-handled false =
+          record {
+            low = h .low;
+            bound = h .bound;
+            marks = h .marks;
+            synced = h .synced;
+            reached = h .reached;
+            told = h .told;
+            heard = h .heard;
+            answers = λ d g. h .answers d (g ∙ skipped t (min (t .max) (s .max)) q (message s w) asked .seq);
+          }
 
-    peer-gated : (b : Bool) → Known s t p (gated b (min (t .max) (s .max)) t q (message s w)) (some (message s w)) from-q
-    unfolding gated message
-    peer-gated true =
-        record {
-          low = h .low;
-          bound = h .bound;
-          marks = h .marks;
-          synced = h .synced;
-          full = h .full;
-          told = (w, refl, record { bound = k .bound; latest = λ d. d; same = k .same });
-          answers = peer-answers;
-          answered = carried-map t _ _ (λ x y. record { bound = y .bound; latest = λ d. k .latest (y .latest d); answers = y .answers }) from-q (h .answered);
-        }
-    peer-gated false =
-        record {
-          low = h .low;
-          bound = h .bound;
-          marks = h .marks;
-          synced = h .synced;
-          full = h .full;
-          told = h .told;
-          answers = h .answers;
-          answered = h .answered;
-        }
-
-  peer-handle : Fit s → (from-p from-q : Option Message) → Known s t p q from-p from-q → Known s t p (given t q from-p) from-p from-q
-  unfolding given recv message
-  peer-handle good none from-q h = h
-  peer-handle good (some m) from-q h =
-      let k = h .told in
-      subst (λ (x : Message). Known s t p (recv t q x) (some x) from-q) (sym (k .1))
-      (peer-gated good (k .0) from-q (subst (λ (x : Message). Known s t p q (some x) from-q) (k .1) h) (k .2) _)
+    peer-handle : (from-p from-q : Option Message) → Known s t p q from-p from-q → Known s t p (given t q from-p) from-p from-q
+    unfolding given recv message
+    peer-handle none from-q h = h
+    peer-handle (some m) from-q h =
+        let k = h .told in
+        subst (λ (x : Message). Known s t p (recv t q x) (some x) from-q) (sym (k .1))
+        (peer-handled (k .0) from-q (subst (λ (x : Message). Known s t p q (some x) from-q) (k .1) h) (k .2) _)
 
 -- ---- any calls, from the start
 
 start : (s t : Settings) → Known s t (started s) (started t) none none
 unfolding started
 start s t =
+    let a : After0 s t (started s) 0 = first.start s t in
     record {
       low = λ d. absurd (false≢true d);
-      bound = first.start s t true true .bound;
-      marks = λ f a. let k = start-asks s f a in inl (inr (k .1 ∙ sym (k .0)));
-      synced = λ d f a. early f a d;
-      full = λ d f a. early f a d;
+      bound = bound-fresh s _ (a .fresh);
+      marks = to-marked (started s) (⊎-elim (λ h. h .1) (λ h. h .0 .1) (a .phase));
+      synced = a .asked;
+      reached = λ d. d;
       told = tt;
-      answers = λ d f a b c. early f a d;
-      answered = tt;
+      heard = tt;
+      answers = λ d g f y. absurd (false≢true (sym (fresh-synced (t .of f) (first.start t s .asked g f)) ∙ y));
     }
-  where
-    -- SeqNo 1 is not acknowledged yet
-    early : {A : Type 0} (f : Feature) → advertised s f ≡ true → 0 ≡ started s .seq → A
-    early f a d = let z : _≡_ {A = ℕ} 0 1 = d ∙ start-asks s f a .0 in absurd (omega arith)
+
+-- an end of which nothing is left to ask: it has seen its peer, and RcvdAckNo = SeqNo
+abbrev pub Acknowledged : Core → Type 0
+Acknowledged p = (p .seen ≡ true) × (p .rcvd ≡ p .seq)
 
 module _ (s t : Settings) (fit-s : Fit s) (fit-t : Fit t) where
   abbrev Both : Pair → Type 0
@@ -374,13 +227,28 @@ module _ (s t : Settings) (fit-s : Fit s) (fit-t : Fit t) where
   step-known (refused x) c h = h
   step-known (writes left out) c h = (own-write s t (c .l) (c .r) (c .from-l) (c .from-r) (h .0), peer-write t s (c .r) (c .l) (c .from-r) (c .from-l) (h .0 .bound) (h .1))
   step-known (writes right out) c h = (peer-write s t (c .l) (c .r) (c .from-l) (c .from-r) (h .1 .bound) (h .0), own-write t s (c .r) (c .l) (c .from-r) (c .from-l) (h .1))
-  step-known (handles left) c h = (own-handle s t (c .l) (c .r) fit-t (c .from-l) (c .from-r) (h .0), peer-handle t s (c .r) (c .l) fit-t (c .from-r) (c .from-l) (h .1))
-  step-known (handles right) c h = (peer-handle s t (c .l) (c .r) fit-s (c .from-l) (c .from-r) (h .0), own-handle t s (c .r) (c .l) fit-s (c .from-r) (c .from-l) (h .1))
+  step-known (handles left) c h = (own-handle s t (c .l) (c .r) fit-t (c .from-l) (c .from-r) (h .0), peer-handle t s (c .r) (c .l) fit-t (h .0 .synced) (c .from-r) (c .from-l) (h .1))
+  step-known (handles right) c h = (peer-handle s t (c .l) (c .r) fit-s (h .1 .synced) (c .from-l) (c .from-r) (h .0), own-handle t s (c .r) (c .l) fit-s (c .from-r) (c .from-l) (h .1))
 
   run-known : (xs : List Call) → Both (run s t xs (begin s t))
   unfolding begin
   run-known xs = run-keeps s t Both step-known xs (begin s t) (start s t, start t s)
 
-  pub run-concluded : (xs : List Call) → let c : Pair = run s t xs (begin s t) in
-      (c .l .seen ≡ true → c .l .rcvd ≡ c .l .seq → Concluded s t (c .l)) × (c .r .seen ≡ true → c .r .rcvd ≡ c .r .seq → Concluded t s (c .r))
-  run-concluded xs = let h = run-known xs in (concluded s t _ _ _ _ (h .0), concluded t s _ _ _ _ (h .1))
+-- each has answered what the other offers, and nothing waits: the versions are right at both, hence the Errors, hence all
+module _ (s t : Settings) (fit-s : Fit s) (fit-t : Fit t) (p q : Core) (from-p from-q : Option Message) where
+  concluded : Known s t p q from-p from-q → Known t s q p from-q from-p → Acknowledged p → Acknowledged q → Concluded s t p
+  concluded h k (e, d) (e′, d′) =
+      let x : Answers s t p (q .offer) = k .answers (k .reached d′) d in
+      let y : Answers t s q (p .offer) = h .answers (h .reached d) d′ in
+      let shown : All-shown q = shown-all q (k .marks) (k .synced d′) in
+      let v : Version s t (p .offer) =
+      version-shown s t p (shown-all p (h .marks) (h .synced d)) (answers-version s t p (q .offer) x (k .bound)) in
+      let v′ : Version t s (q .offer) = version-shown t s q shown (answers-version t s q (p .offer) y (h .bound)) in
+      let e′ : Error t s (q .offer) = error-shown t s q shown (answers-error t s q (p .offer) y fit-s v) in
+      record { low = h .low e; seen = e; rcvd = d; synced = h .synced d; full = answers-full s t p (q .offer) x fit-t v′ e′ }
+
+pub run-concluded : (s t : Settings) → Fit s → Fit t → (xs : List Call) → let c : Pair = run s t xs (begin s t) in
+    Acknowledged (c .l) → Acknowledged (c .r) → Concluded s t (c .l) × Concluded t s (c .r)
+run-concluded s t fit-s fit-t xs a b =
+    let h = run-known s t fit-s fit-t xs in
+    (concluded s t fit-s fit-t _ _ _ _ (h .0) (h .1) a b, concluded t s fit-t fit-s _ _ _ _ (h .1) (h .0) b a)

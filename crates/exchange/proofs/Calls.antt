@@ -12,6 +12,7 @@ use Rattle.tlv.specs.declared.Refusal.the-variants as refusal
 use Rattle.tlv.specs.declared.Reading.{Reading}
 use Rattle.tlv.specs.declared.Reading.the-variants.{Refused, Accepted}
 use Rattle.tlv.specs.declared.Contents.{Contents}
+use Rattle.tlv.specs.declared.Found.{Found}
 use Rattle.tlv.specs.declared.Revision.{Revision}
 use Rattle.tlv.specs.declared.Revision.the-variants.{Rev101, Rev10}
 use Rattle.tlv.specs.Layout.{readFrame}
@@ -27,11 +28,11 @@ use Rattle.port.specs.declared.Written.the-variants as wrote
 use Rattle.port.specs.declared.Answer.the-variants as answer
 use Rattle.port.specs.Parts.{three, withControl, withFeatures, running}
 use Rattle.port.specs.Writing.{frame, written, output}
-use Rattle.port.specs.PortEvents.{completed}
+use Rattle.events.specs.PortEvents.{completed}
 use Rattle.handling.specs.Handling.{message, twice, met, numbered, exchanged, once, steps1to4, frameEvent, accepted, breaks, withBroken, rejected, given, handled}
 use Rattle.port.specs.Sound.{SoundPort}
 use Rattle.exchange.proofs.Core as core
-use Rattle.exchange.proofs.View.{settings, view}
+use Rattle.exchange.proofs.View.{settings, view, Offers}
 use Rattle.exchange.proofs.Frames as frames
 
 -- ---- writes
@@ -65,16 +66,16 @@ refused-marks p o why place e = refused-by p o why place (running p) (p .several
 
 -- ---- 02, E11: what the reader tells a port of its revision. A port that does not advertise applications looks at none.
 
-unfoldable contentsFor : Revision → Contents → Contents
+unfoldable pub contentsFor : Revision → Contents → Contents
 contentsFor Rev101 c = c
 contentsFor Rev10 c = withoutApplications c
 
-read-as : (v : Revision) (o : List ℕ) (c : Contents) → readFrame o ≡ Accepted c → readFor v o ≡ Accepted (contentsFor v c)
+pub read-as : (v : Revision) (o : List ℕ) (c : Contents) → readFrame o ≡ Accepted c → readFor v o ≡ Accepted (contentsFor v c)
 unfolding readFor skipping contentsFor
 read-as Rev101 o c e = e
 read-as Rev10 o c e = ap skipping e
 
-control-as : (v : Revision) (c : Contents) → contentsFor v c .control .count ≡ c .control .count
+pub control-as : (v : Revision) (c : Contents) → contentsFor v c .control ≡ c .control
 unfolding contentsFor
 control-as Rev101 c = refl
 control-as Rev10 c = refl
@@ -120,14 +121,17 @@ module _ (p q : Port) where
       ap (λ b. if not b then rejected refusal.NotRunning 0 p else if p .several then rejected refusal.SeveralNeighbours 0 p else given o (readFor (p .revision) o) p) r
       ∙ ap (λ b. if b then rejected refusal.SeveralNeighbours 0 p else given o (readFor (p .revision) o) p) n
 
-  pub delivered-port : running p ≡ true → p .several ≡ false → SoundPort p → SoundPort q →
-      handled p (frame q) .port ≡ completed p (once (core.message (settings q) (view q)) p)
+  pub delivered-read : running p ≡ true → p .several ≡ false → SoundPort p → (h : SoundPort q) →
+      handled p (frame q) .port ≡ completed p (once (message (frame q) (frames.contents q h)) p)
   unfolding given accepted frameEvent steps1to4
-  delivered-port r n g h =
+  delivered-read r n g h =
       let c : Contents = frames.contents q h in
       let d : Contents = contentsFor (p .revision) c in
       ap (λ (x : Event). x .port) (runs-given (frame q) r n)
       ∙ ap (λ x. given (frame q) x p .port) (read-as (p .revision) (frame q) c (frames.accepted q h))
-      ∙ ap (λ k. completed p (if 1 below k then twice p else once (message (frame q) d) p)) (control-as (p .revision) c ∙ frames.one-control q h)
+      ∙ ap (λ k. completed p (if 1 below k then twice p else once (message (frame q) d) p)) (ap (λ (x : Found). x .count) (control-as (p .revision) c) ∙ frames.one-control q h)
       ∙ ap (completed p) (once-as p (p .revision) (λ e. ap (λ (s : Setting). s .advertise) (g .revision e .setting)) (frame q) c)
-      ∙ ap (λ m. completed p (once m p)) (frames.message-read q h)
+
+  pub delivered-port : running p ≡ true → p .several ≡ false → SoundPort p → SoundPort q → Offers q →
+      handled p (frame q) .port ≡ completed p (once (core.message (settings q) (view q)) p)
+  delivered-port r n g h own = delivered-read r n g h ∙ ap (λ m. completed p (once m p)) (frames.message-read q h own)

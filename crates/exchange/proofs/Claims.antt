@@ -3,7 +3,7 @@ use Prim.Native.Nat.{ℕ}
 use native.Mathlib.Nat.{min-le-right}
 use native.Mathlib.Omega.{arith}
 use mathlib.Core.Path.{_≡_, refl, sym, ap, _∙_, subst}
-use mathlib.Core.Bool.{Bool, true, false, not, _&&_}
+use mathlib.Core.Bool.{Bool, true, false, _&&_}
 use mathlib.Core.List.{List, [], _∷_}
 use borrow.Author.Tests.{eqb-true}
 use Rattle.octets.specs.Words.{if_then_else_, _is_}
@@ -15,8 +15,7 @@ use Rattle.feature.specs.Outcome.{lower, outcome}
 use Rattle.feature.specs.Outcome as rules
 use Rattle.feature.specs.State.{flags, fresh}
 use Rattle.port.specs.declared.Port.{Port}
-use Rattle.port.specs.Parts.{featureOf, each}
-use Rattle.port.specs.PortEvents.{unsynced}
+use Rattle.port.specs.Parts.{featureOf}
 use Rattle.port.specs.Settled.{settled}
 use Rattle.port.specs.Sound.{SoundPort}
 use Rattle.exchange.specs.Rounds.{Side, sideOf, receivedAlone, ruled, alone, expected}
@@ -26,6 +25,7 @@ use Rattle.exchange.proofs.View.{settings, view}
 use Rattle.exchange.proofs.Stages.{Fit, Full, Concluded}
 use Rattle.exchange.proofs.Losses.{Own, Honest}
 use Rattle.exchange.proofs.Idle.{Idle}
+use Rattle.exchange.proofs.Acknowledged.{Acknowledged}
 use Rattle.exchange.proofs.Laws.{lower-of-two}
 
 pub fit : (p : Port) → SoundPort p → Fit (settings p)
@@ -65,23 +65,20 @@ module _ (own peer p : Port) (q : Core) (e : view p ≡ q) where
       record {
         seen = ap (λ (x : Core). x .seen) e ∙ h .seen;
         acknowledged = ap (λ (x : Core). x .rcvd) e ∙ h .rcvd ∙ sym (ap (λ (x : Core). x .seq) e);
-        synced = λ f a. ap (λ (x : Core). x .feat f .syncd) e ∙ h .synced f a;
+        synced = λ f a. ap (λ (x : Core). x .feat f .syncd) e ∙ h .synced f;
         version = ap (λ (x : Core). x .oper) e ∙ h .low;
         versions = λ f a b. ap (λ (x : Outcome). x .oper) (o f) ∙ expected-version f (sideOf own f) (sideOf peer f) a b;
         outcome = o;
         configuration = λ f i. rules.configuration (s i .of f .setting) (o f i);
       }
 
-  -- a settled port has seen a peer, and its SeqNo is acknowledged
-  pub settled-agreed : settings p ≡ settings own → (q .seen ≡ true → q .rcvd ≡ q .seq → Concluded (settings own) (settings peer) q) → Idle (settings own) q →
-      settled p ≡ true → Agreed own peer p
-  unfolding settled
-  settled-agreed s k i d =
-      let n : (p .control .seen && p .control .rcvd is p .control .seq) ≡ true = and-left _ (each (λ f. not (unsynced (featureOf p f)))) d in
-      let a : p .control .rcvd ≡ p .control .seq = eqb-true (p .control .rcvd) (p .control .seq) (and-right (p .control .seen) _ n) in
-      agreed s
-      (k (sym (ap (λ (x : Core). x .seen) e) ∙ and-left (p .control .seen) _ n) (sym (ap (λ (x : Core). x .rcvd) e) ∙ a ∙ ap (λ (x : Core). x .seq) e))
-      i
-
   pub truthful : Honest (settings peer) q → Truthful peer p
   truthful h = record { own = λ f. subst (λ (x : Core). Own (settings peer .of f) (x .feat f .outcome .peer)) (sym e) (h f) }
+
+-- a settled port has seen a peer, and its SeqNo is acknowledged
+pub settled-acknowledged : (p : Port) (q : Core) → view p ≡ q → settled p ≡ true → Acknowledged q
+unfolding settled
+settled-acknowledged p q e d =
+    let n : (p .control .seen && p .control .rcvd is p .control .seq) ≡ true = and-left (p .control .seen && p .control .rcvd is p .control .seq) _ d in
+    let a : p .control .rcvd ≡ p .control .seq = eqb-true (p .control .rcvd) (p .control .seq) (and-right (p .control .seen) _ n) in
+    (sym (ap (λ (x : Core). x .seen) e) ∙ and-left (p .control .seen) _ n, sym (ap (λ (x : Core). x .rcvd) e) ∙ a ∙ ap (λ (x : Core). x .seq) e)

@@ -23,6 +23,15 @@ pub record Settings : Type 0 where
 abbrev pub advertised : Settings → Feature → Bool
 advertised s f = s .of f .setting .advertise
 
+-- of a sub-TLV what frames change: the settings are fixed
+pub record Offer : Type 0 where
+  pub oper : ℕ
+  pub error : Bool
+
+-- what an outcome offers
+abbrev pub offerOf : Outcome → Offer
+offerOf o = record { oper = o .oper; error = o .error }
+
 -- what changes of a feature
 pub record Machine : Type 0 where
   pub outcome : Outcome
@@ -32,7 +41,7 @@ pub record Machine : Type 0 where
 abbrev pub machineOf : State → Machine
 machineOf x = record { outcome = x .outcome; syncd = x .syncd; sequence = x .sequence }
 
--- what changes of a port
+-- what changes of a port; `offer` is what was last released, and is written until the next release (02, E5)
 pub record Core : Type 0 where
   pub oper : ℕ
   pub seq : ℕ
@@ -41,10 +50,11 @@ pub record Core : Type 0 where
   pub seen : Bool
   pub duplicate : Bool
   pub feat : Feature → Machine
+  pub offer : Feature → Offer
 
 -- ---- what is written: nothing of a feature that is not advertised
 
-unfoldable pub written : Bool → Side → Outcome → Received
+unfoldable pub written : Bool → Side → Offer → Received
 written false x o = record { count = 0; value = [] }
 written true x o =
     record {
@@ -59,7 +69,7 @@ message s p =
       max = s .max;
       seq = p .seq;
       ack = p .ack;
-      has = λ f. written (advertised s f) (s .of f) (p .feat f .outcome);
+      has = λ f. written (advertised s f) (s .of f) (p .offer f);
     }
 
 -- ---- steps 3 to 5 for one feature
@@ -68,7 +78,7 @@ message s p =
 unfoldable pub synced : ℕ → ℕ → Machine → Machine
 synced rcvd seq x = record { outcome = x .outcome; syncd = x .syncd || (x .sequence is rcvd && x .sequence is seq); sequence = x .sequence }
 
--- the written sub-TLV changed; the setting did not
+-- the present sub-TLV changed; the setting did not
 unfoldable pub changed : Outcome → Outcome → Bool
 changed o n = not (o .oper is n .oper && Bool·beq (o .error) (n .error))
 
@@ -83,17 +93,22 @@ handled true f own rcvd seq r x =
     let o = outcome f (own .max) (own .setting) (x .outcome .oper) r in
     marked (changed (x .outcome) o) seq o (synced rcvd seq x)
 
--- ---- the send rule: SeqNo afterwards
+-- ---- the send rule: does it raise SeqNo, and what is released afterwards
 
 unfoldable pub bump : Bool → ℕ → ℕ
 bump true n = next n
 bump false n = n
 
-unfoldable pub pending : Settings → (Feature → Machine) → Bool
-pending s x = some (λ f. advertised s f && not (x f .syncd))
+-- a feature that is not advertised is always Syncd here: nothing is withdrawn
+unfoldable pub pending : (Feature → Machine) → Bool
+pending x = some (λ f. not (x f .syncd))
 
-unfoldable pub sent : Settings → (Feature → Machine) → ℕ → ℕ → ℕ
-sent s x rcvd seq = bump (pending s x && rcvd is seq) seq
+unfoldable pub raises : (Feature → Machine) → ℕ → ℕ → Bool
+raises x rcvd seq = pending x && rcvd is seq
+
+unfoldable pub released : Bool → (Feature → Machine) → (Feature → Offer) → Feature → Offer
+released true x old = λ f. offerOf (x f .outcome)
+released false x old = old
 
 -- ---- just started, and a message received
 
@@ -105,7 +120,16 @@ freshMachines s f = freshMachine (s .of f)
 
 unfoldable pub started : Settings → Core
 started s =
-    record { oper = s .max; seq = sent s (freshMachines s) 0 0; ack = 0; rcvd = 0; seen = false; duplicate = false; feat = freshMachines s }
+    record {
+      oper = s .max;
+      seq = bump (raises (freshMachines s) 0 0) 0;
+      ack = 0;
+      rcvd = 0;
+      seen = false;
+      duplicate = false;
+      feat = freshMachines s;
+      offer = λ f. offerOf (freshMachines s f .outcome);
+    }
 
 abbrev pub features : Settings → Core → Message → Feature → Machine
 features s p m f = handled (advertised s f) f (s .of f) (m .ack) (p .seq) (m .has f) (p .feat f)
@@ -113,16 +137,28 @@ features s p m f = handled (advertised s f) f (s .of f) (m .ack) (p .seq) (m .ha
 -- steps 3 to 5, behind step 2's test
 unfoldable pub gated : Bool → ℕ → Settings → Core → Message → Core
 gated false low s p m =
-    record { oper = low; seq = sent s (p .feat) (p .rcvd) (p .seq); ack = p .ack; rcvd = p .rcvd; seen = true; duplicate = false; feat = p .feat }
-gated true low s p m =
+    let raised : Bool = raises (p .feat) (p .rcvd) (p .seq) in
     record {
       oper = low;
-      seq = sent s (features s p m) (m .ack) (p .seq);
+      seq = bump raised (p .seq);
+      ack = p .ack;
+      rcvd = p .rcvd;
+      seen = true;
+      duplicate = false;
+      feat = p .feat;
+      offer = released raised (p .feat) (p .offer);
+    }
+gated true low s p m =
+    let raised : Bool = raises (features s p m) (m .ack) (p .seq) in
+    record {
+      oper = low;
+      seq = bump raised (p .seq);
       ack = m .seq;
       rcvd = m .ack;
       seen = true;
       duplicate = false;
       feat = features s p m;
+      offer = released raised (features s p m) (p .offer);
     }
 
 unfoldable pub recv : Settings → Core → Message → Core

@@ -18,27 +18,29 @@ use Rattle.parameters.specs.declared.Feature.{Feature}
 use Rattle.parameters.specs.declared.Feature.the-variants.{Groups, Flow, Applications}
 use Rattle.parameters.specs.Parameters.{featureNumber, validGroups, validFlow, valid, ours, content}
 use Rattle.parameters.specs.FeatureLaws.{ours-length}
-use Rattle.feature.specs.declared.State.{State}
+use Rattle.feature.specs.declared.Release.{Release}
+use Rattle.feature.specs.declared.Setting.{Setting}
 use Rattle.feature.specs.Outcome.{Received}
-use Rattle.feature.specs.State.{value, subTlv}
+use Rattle.feature.specs.State.{value, releaseTlv}
 use Rattle.port.specs.declared.Port.{Port}
-use Rattle.port.specs.Writing.{controlValue, subTlvs, frame}
+use Rattle.port.specs.Parts.{featureOf, releasedOf}
+use Rattle.port.specs.Writing.{controlValue, releasedTlv, subTlvs, frame}
 use Rattle.handling.specs.Handling.{hasOf, message}
-use Rattle.port.specs.Sound.{SoundState, SoundPort}
+use Rattle.port.specs.Sound.{SoundRelease, SoundPort}
 use Rattle.exchange.proofs.Core as core
-use Rattle.exchange.proofs.View.{settings, view}
+use Rattle.exchange.proofs.View.{settings, view, Offers}
 
 -- ---- the frame by its parts
 
-abbrev partOf : State → Part
-partOf x = record { advertised = x .setting .advertise; value = value x }
+abbrev partOf : ℕ → Release → Part
+partOf max r = record { advertised = r .setting .advertise; value = value max r }
 
 abbrev partsOf : Port → Parts
 partsOf q =
-    record { control = controlValue (q .control); groups = partOf (q .groups); flow = partOf (q .flow); applications = partOf (q .applications) }
+    record { control = controlValue (q .control); groups = partOf (q .groups .max) (q .released .groups); flow = partOf (q .flow .max) (q .released .flow); applications = partOf (q .applications .max) (q .released .applications) }
 
 parts-written : (q : Port) → subTlvs q ≡ partsOctets (partsOf q)
-unfolding subTlvs subTlv partsOctets featureNumber
+unfolding subTlvs releaseTlv partsOctets featureNumber
 parts-written q = refl
 
 frame-written : (q : Port) → frame q ≡ frameHead (length (partsOctets (partsOf q))) ++ partsOctets (partsOf q)
@@ -59,12 +61,12 @@ valid-longest Groups o e k = let l : length o ≡ 13 = eqb-true (length o) 13 (a
 valid-longest Flow o e k = let l : length o ≡ 2 = eqb-true (length o) 2 (and-left _ _ e) in omega arith
 valid-longest Applications o e k = rw k at (ours-length Applications o e)
 
-sub-length : (f : Feature) (x : State) → SoundState f x → length (subTlv f x) ≤ 6 + longest f
-unfolding subTlv
-sub-length f x h = by (x .setting .advertise)
+sub-length : (f : Feature) (max : ℕ) (x : Release) → SoundRelease f max x → length (releaseTlv f max x) ≤ 6 + longest f
+unfolding releaseTlv
+sub-length f max x h = by (x .setting .advertise)
   where
     by : (b : Bool) →
-        length (if b then headed (featureNumber f) (value x) else []) ≤ 6 + longest f
+        length (if b then headed (featureNumber f) (value max x) else []) ≤ 6 + longest f
     by true = omega (arith, valid-longest f (content (x .setting .desired)) (h .setting .desired .valid) (h .setting .desired .own))
     by false = omega arith
 
@@ -73,11 +75,11 @@ unfolding subTlvs
 subs-length q h =
     omega (
       arith,
-      length-append (subTlv Groups (q .groups)) (subTlv Flow (q .flow) ++ subTlv Applications (q .applications)),
-      length-append (subTlv Flow (q .flow)) (subTlv Applications (q .applications)),
-      sub-length Groups (q .groups) (h .features Groups),
-      sub-length Flow (q .flow) (h .features Flow),
-      sub-length Applications (q .applications) (h .features Applications),
+      length-append (releasedTlv q Groups) (releasedTlv q Flow ++ releasedTlv q Applications),
+      length-append (releasedTlv q Flow) (releasedTlv q Applications),
+      sub-length Groups (q .groups .max) (q .released .groups) (h .released Groups),
+      sub-length Flow (q .flow .max) (q .released .flow) (h .released Flow),
+      sub-length Applications (q .applications .max) (q .released .applications) (h .released Applications),
     )
 
 -- ---- reading it
@@ -106,31 +108,41 @@ module _ (q : Port) (h : SoundPort q) where
   control-read : valueOf (frame q) (contents .control) ≡ controlValue (q .control)
   control-read = ap (λ (x : Values). x .control .value) (read-back .values)
 
-  part-read : (x : State) (c : Counted) → c ≡ partCounted (partOf x) → (b : Bool) → x .setting .advertise ≡ b →
+  part-read : (max : ℕ) (x : Release) (c : Counted) → c ≡ partCounted (partOf max x) → (b : Bool) → x .setting .advertise ≡ b →
       _≡_ {A = Received} (record { count = c .count; value = c .value })
-      (core.written b (record { max = x .max; setting = x .setting }) (x .outcome))
+      (core.written b (record { max = max; setting = x .setting }) (record { oper = x .oper; error = x .error }))
   unfolding core.written
-  part-read x c e true a = rw (e, a)
-  part-read x c e false a = rw (e, a)
+  part-read max x c e true a = rw (e, a)
+  part-read max x c e false a = rw (e, a)
 
-  has-read : (f : Feature) → hasOf (frame q) contents f ≡ core.message (settings q) (view q) .has f
-  unfolding core.message
-  has-read Groups = part-read (q .groups) _ (ap (λ (x : Values). x .groups) (read-back .values)) _ refl
-  has-read Flow = part-read (q .flow) _ (ap (λ (x : Values). x .flow) (read-back .values)) _ refl
-  has-read Applications = part-read (q .applications) _ (ap (λ (x : Values). x .applications) (read-back .values)) _ refl
+  -- of a port that has released no applications none are found
+  pub none-written : q .released .applications .setting .advertise ≡ false → contents .applications .count ≡ 0
+  unfolding core.written
+  none-written a =
+      ap (λ (r : Received). r .count) (part-read (q .applications .max) (q .released .applications) _ (ap (λ (x : Values). x .applications) (read-back .values)) _ refl) ∙ rw a refl
 
-  -- of a port that does not advertise applications none are found
-  pub none-written : q .applications .setting .advertise ≡ false → contents .applications .count ≡ 0
-  unfolding core.written core.message
-  none-written a = ap (λ (r : Received). r .count) (has-read Applications) ∙ rw a refl
+  -- the numbers of control
+  pub seq-read : message (frame q) contents .seq ≡ q .control .seq
+  seq-read = ap (λ v. number4 v 2) control-read ∙ number-read (q .control .seq) (h .control .seq)
 
-  pub message-read : message (frame q) contents ≡ core.message (settings q) (view q)
-  unfolding core.message
-  message-read =
-      λ i. record {
-        oper = at (control-read i) 0;
-        max = at (control-read i) 1;
-        seq = (ap (λ v. number4 v 2) control-read ∙ number-read (q .control .seq) (h .control .seq)) i;
-        ack = (ap (λ v. number4 v 6) control-read ∙ number-read (q .control .ack) (h .control .ack)) i;
-        has = λ f. has-read f i;
-      }
+  pub ack-read : message (frame q) contents .ack ≡ q .control .ack
+  ack-read = ap (λ v. number4 v 6) control-read ∙ number-read (q .control .ack) (h .control .ack)
+
+  -- of each feature what was released
+  pub has-released : (f : Feature) → (let x : Release = releasedOf q f in
+      hasOf (frame q) contents f ≡ core.written (x .setting .advertise) (record { max = featureOf q f .max; setting = x .setting }) (record { oper = x .oper; error = x .error }))
+  has-released Groups = part-read (q .groups .max) (q .released .groups) _ (ap (λ (x : Values). x .groups) (read-back .values)) _ refl
+  has-released Flow = part-read (q .flow .max) (q .released .flow) _ (ap (λ (x : Values). x .flow) (read-back .values)) _ refl
+  has-released Applications = part-read (q .applications .max) (q .released .applications) _ (ap (λ (x : Values). x .applications) (read-back .values)) _ refl
+
+  -- what is released is of the present settings
+  module _ (own : Offers q) where
+    has-read : (f : Feature) → hasOf (frame q) contents f ≡ core.message (settings q) (view q) .has f
+    unfolding core.message
+    has-read f =
+        has-released f
+        ∙ ap (λ (s : Setting). core.written (s .advertise) (record { max = featureOf q f .max; setting = s }) (record { oper = releasedOf q f .oper; error = releasedOf q f .error })) (own f)
+
+    pub message-read : message (frame q) contents ≡ core.message (settings q) (view q)
+    unfolding core.message
+    message-read = λ i. record { oper = at (control-read i) 0; max = at (control-read i) 1; seq = seq-read i; ack = ack-read i; has = λ f. has-read f i }

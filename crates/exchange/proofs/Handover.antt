@@ -158,7 +158,7 @@ module _ (c d : Ends) (x : RolesSwapped c d) (before now : Ends) where
   both-swapped h k = (at-left (h .0) (k .1), at-right (h .1) (k .0))
 
   settled-swapped : SettledAgreed c before → SettledAgreed d now → SettledSwapped before now
-  settled-swapped h k = (λ a b. at-left (h .0 a) (k .1 b), λ a b. at-right (h .1 a) (k .0 b))
+  settled-swapped h k a b e g = both-swapped (h a b) (k e g)
 
 same-ends : (c now : Ends) → Begun c → BothAgreed c now → SameEnds c now
 same-ends c now h k f a b =
@@ -179,7 +179,7 @@ of-ports c d h k x =
       swaps = λ rs ss p q n m. both-swapped c d x (execAll (rounds rs) c) (execAll (rounds ss) d) (before .settles rs p n) (now .settles ss q m);
       settled-swaps = λ rs ss p q. settled-swapped c d x (execAll (lossyRounds rs) c) (execAll (lossyRounds ss) d) (before .agrees rs p) (now .agrees ss q);
       same = λ rs p n. same-ends c (execAll (rounds rs) c) h (before .settles rs p n);
-      settled-same = λ rs p l r. let z = before .agrees rs p in same-ends c (execAll (lossyRounds rs) c) h (z .0 l, z .1 r);
+      settled-same = λ rs p l r. same-ends c (execAll (lossyRounds rs) c) h (before .agrees rs p l r);
     }
 
 of-recorders : (k : Cable) (c : Recorders) (j : Cable) (d : Recorders) → Joins k (c .l) (c .r) → Joins j (d .l) (d .r) →
@@ -193,7 +193,7 @@ of-recorders k c j d v w g h x =
       settled-swaps = λ xs ys p q rs ss a b.
           settled-swapped (ends k c) (ends j d) x (ends k (recorders.execAll k xs c)) (ends j (recorders.execAll j ys d)) (before .agrees xs p rs a) (now .agrees ys q ss b);
       same = λ xs p rs a n. same-ends (ends k c) (ends k (recorders.execAll k xs c)) g (before .settles xs p rs a n);
-      settled-same = λ xs p rs a l r. let z = before .agrees xs p rs a in same-ends (ends k c) (ends k (recorders.execAll k xs c)) g (z .0 l, z .1 r);
+      settled-same = λ xs p rs a l r. same-ends (ends k c) (ends k (recorders.execAll k xs c)) g (before .agrees xs p rs a l r);
     }
 
 -- ---- all of it

@@ -12,7 +12,7 @@ use Rattle.feature.specs.State.{freshAt}
 use Rattle.handling.specs.Handling.{Message}
 use Rattle.port.specs.Sound.{SoundParameters}
 use Rattle.exchange.specs.Rounds.{left, right, Call, refused, writes, handles, Side}
-use Rattle.exchange.proofs.Core.{Settings, Machine, Core, written, message, synced, marked, handled, freshMachine, started, gated, recv}
+use Rattle.exchange.proofs.Core.{Settings, Offer, Machine, Core, written, message, synced, marked, handled, freshMachine, started, gated, recv}
 use Rattle.exchange.proofs.Outcomes.{peer-is}
 use Rattle.exchange.proofs.Pairs.{Pair, given, step, run, begin, run-keeps}
 use Rattle.exchange.proofs.Stages.{Fit}
@@ -25,7 +25,7 @@ own-none : (x : Side) → Own x noPeer
 own-none x e = absurd (false≢true e)
 
 module _ (f : Feature) (own peer : Side) (good : SoundParameters f (peer .setting .desired)) where
-  outcome-own : (adv : Bool) → peer .setting .advertise ≡ adv → (old : ℕ) (o : Outcome) →
+  outcome-own : (adv : Bool) → peer .setting .advertise ≡ adv → (old : ℕ) (o : Offer) →
       Own peer (outcome f (own .max) (own .setting) old (written adv peer o) .peer)
   outcome-own adv a old o = peer-is adv f own peer old o (Own peer) good (own-none peer) (λ t e. (a ∙ t, refl, refl, refl))
 
@@ -34,7 +34,7 @@ module _ (f : Feature) (own peer : Side) (good : SoundParameters f (peer .settin
   marked-own true seq o x h = h
   marked-own false seq o x h = h
 
-  handled-own : (a adv : Bool) → peer .setting .advertise ≡ adv → (rcvd seq : ℕ) (o : Outcome) (x : Machine) → Own peer (x .outcome .peer) →
+  handled-own : (a adv : Bool) → peer .setting .advertise ≡ adv → (rcvd seq : ℕ) (o : Offer) (x : Machine) → Own peer (x .outcome .peer) →
       Own peer (handled a f own rcvd seq (written adv peer o) x .outcome .peer)
   unfolding handled synced
   handled-own false adv e rcvd seq o x h = h

@@ -8,7 +8,7 @@ use mathlib.Core.List.{_∷_}
 use lib.ListN.{length}
 use borrow.Author.Tests.{le-ltb, eq-eqb, eqb-true, not-false}
 use Rattle.octets.specs.Words.{if_then_else_, _below_, _atmost_, _is_}
-use Rattle.octets.specs.Laws.{and-left}
+use Rattle.octets.specs.Laws.{and-left, and-right}
 use Rattle.parameters.specs.declared.Feature.{Feature}
 use Rattle.parameters.specs.Parameters.{valid, ours, stored, content}
 use Rattle.feature.specs.declared.Setting.{Setting}
@@ -19,9 +19,9 @@ use Rattle.feature.specs.Outcome.{Received, noPeer, withoutPeer, judged, outcom
 use Rattle.feature.specs.State.{flags}
 use Rattle.port.specs.Sound.{SoundParameters}
 use Rattle.exchange.specs.Rounds.{Side, receivedAlone, ruled}
-use Rattle.exchange.proofs.Core.{written, changed}
+use Rattle.exchange.proofs.Core.{Offer, offerOf, written, changed}
 use Rattle.exchange.proofs.Laws.{lower-of-two}
-use Rattle.handling.proofs.Tests.{is-same, beq-same}
+use Rattle.handling.proofs.Tests.{is-same, beq-same, beq-not}
 use Rattle.feature.specs.RulesLaws.{judgedBy, judged-by, judged-peer}
 
 -- the version that the two settings lead to, if the peer advertises
@@ -133,18 +133,33 @@ ranked-peer true b f own old low p P n h = n
 ranked-peer false false f own old low p P n h = n
 ranked-peer false true f own old low p P n h = rw judged-peer h
 
-pub peer-is : (adv : Bool) (f : Feature) (own peer : Side) (old : ℕ) (o : Outcome) (P : Peer → Type 0) → SoundParameters f (peer .setting .desired) →
+pub peer-is : (adv : Bool) (f : Feature) (own peer : Side) (old : ℕ) (o : Offer) (P : Peer → Type 0) → SoundParameters f (peer .setting .desired) →
     P noPeer → (adv ≡ true → P (heldOf peer (o .error))) → P (outcome f (own .max) (own .setting) old (written adv peer o) .peer)
 unfolding outcome written
 peer-is false f own peer old o P h n k = n
 peer-is true f own peer old o P h n k = rw (outcome-by f own peer old (o .oper) (o .error) h) (ranked-peer _ _ f own old _ (heldOf peer (o .error)) P n (k refl))
 
 -- a sub-TLV that a port wrote is readable: Oper becomes the version, whatever Oper came
-pub version-is : (adv : Bool) (f : Feature) (own peer : Side) (old : ℕ) (o : Outcome) → (adv ≡ true → o .oper ≤ peer .max) →
+pub version-is : (adv : Bool) (f : Feature) (own peer : Side) (old : ℕ) (o : Offer) → (adv ≡ true → o .oper ≤ peer .max) →
     outcome f (own .max) (own .setting) old (written adv peer o) .oper ≡ version adv own peer
 unfolding outcome written version
 version-is false f own peer old o k = refl
 version-is true f own peer old o k = lower-of-two f (own .max) (own .setting) old (sent1 (o .oper) peer (o .error)) refl (omega arith) (k refl)
+
+-- ---- the outcome of what a peer offers
+
+-- it takes the own Max for the Oper before, which rules 2 and 3 alone look at
+unfoldable pub answer : Feature → Side → Side → Offer → Outcome
+answer f own peer o = outcome f (own .max) (own .setting) (own .max) (written (peer .setting .advertise) peer o)
+
+-- and a port offers no Oper above its Max
+pub answer-is : (adv : Bool) (f : Feature) (own peer : Side) (old : ℕ) (o : Offer) → SoundParameters f (peer .setting .desired) →
+    peer .setting .advertise ≡ adv → (adv ≡ true → o .oper ≤ peer .max) →
+    outcome f (own .max) (own .setting) old (written adv peer o) ≡ answer f own peer o
+unfolding answer outcome written ranked
+answer-is false f own peer old o h a k = rw a refl
+answer-is true f own peer old o h a k =
+    rw (a, outcome-by f own peer old (o .oper) (o .error) h, outcome-by f own peer (own .max) (o .oper) (o .error) h, le-ltb (peer .max) (o .oper) (k refl)) refl
 
 -- the received Oper is the lower of the two Max
 in-step : (f : Feature) (own peer : Side) (old oper : ℕ) (error : Bool) → SoundParameters f (peer .setting .desired) → oper ≡ min (own .max) (peer .max) →
@@ -186,7 +201,7 @@ error-alone f own peer d e h = by (peer .setting .advertise) refl
         ∙ sym (ap (λ (x : Outcome). x .error) (alone-met f own peer e h a))
 
 -- the peer runs at the version already: the Error is final
-pub error-final : (adv : Bool) (f : Feature) (own peer : Side) (old : ℕ) (o : Outcome) → SoundParameters f (peer .setting .desired) →
+pub error-final : (adv : Bool) (f : Feature) (own peer : Side) (old : ℕ) (o : Offer) → SoundParameters f (peer .setting .desired) →
     peer .setting .advertise ≡ adv → (adv ≡ true → o .oper ≡ min (own .max) (peer .max)) →
     outcome f (own .max) (own .setting) old (written adv peer o) .error ≡ ruled f own peer false .error
 unfolding written outcome
@@ -197,7 +212,7 @@ error-final true f own peer old o h a k =
     ∙ sym (ap (λ (x : Outcome). x .error) (alone-met f own peer false h a))
 
 -- and its Error is final too: the whole outcome is
-pub outcome-final : (adv : Bool) (f : Feature) (own peer : Side) (old : ℕ) (o : Outcome) (error : Bool) → SoundParameters f (peer .setting .desired) →
+pub outcome-final : (adv : Bool) (f : Feature) (own peer : Side) (old : ℕ) (o : Offer) (error : Bool) → SoundParameters f (peer .setting .desired) →
     peer .setting .advertise ≡ adv → (adv ≡ true → o .oper ≡ min (own .max) (peer .max)) → (adv ≡ true → o .error ≡ error) →
     outcome f (own .max) (own .setting) old (written adv peer o) ≡ ruled f own peer error
 unfolding written outcome
@@ -212,7 +227,10 @@ pub unchanged : (o n : Outcome) → o .oper ≡ n .oper → o .error ≡ n .erro
 unfolding changed
 unchanged o n e d = rw (e, d, is-same (n .oper), beq-same (n .error))
 
-pub same-oper : (o n : Outcome) → changed o n ≡ false → o .oper ≡ n .oper
+pub same-offer : (o n : Outcome) → changed o n ≡ false → offerOf o ≡ offerOf n
 unfolding changed
-same-oper o n e =
-    eqb-true (o .oper) (n .oper) (and-left (o .oper is n .oper) (Bool·beq (o .error) (n .error)) (not-false (o .oper is n .oper && Bool·beq (o .error) (n .error)) e))
+same-offer o n e =
+    let k : (o .oper is n .oper && Bool·beq (o .error) (n .error)) ≡ true = not-false (o .oper is n .oper && Bool·beq (o .error) (n .error)) e in
+    let a : o .oper ≡ n .oper = eqb-true (o .oper) (n .oper) (and-left (o .oper is n .oper) _ k) in
+    let b : o .error ≡ n .error = beq-not (o .error) (n .error) (ap not (and-right (o .oper is n .oper) _ k)) in
+    λ i. record { oper = a i; error = b i }

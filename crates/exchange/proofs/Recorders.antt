@@ -14,7 +14,7 @@ use Rattle.handling.specs.Handling as handling
 use Rattle.recorder.specs.declared.Recorder.{Recorder}
 use Rattle.recorder.specs.Recorder.{portAt, happens, changed, written, output}
 use Rattle.recorder.specs.Calls as recorder
-use Rattle.recorder.specs.Calls.{Operation, eventOf, afterAt, after, replyOf}
+use Rattle.recorder.specs.Calls.{eventOf, afterAt, after, replyOf}
 use Rattle.recorder.specs.Rows.{isFrame}
 use Rattle.recorder.specs.Independent.{isEvent}
 use Rattle.recorder.proofs.Independent.{four-after, idle, own-after, other-after}
@@ -51,7 +51,7 @@ module _ (r : Recorder) (n : ℕ) (p : PortNumber n) where
 -- ---- both recorders
 
 module _ (k : Cable) where
-  called-joins : (e : End) (x : recorder.Call) (c : Recorders) → Joins k (c .l) (c .r) → Joins k (called e x c .l) (called e x c .r)
+  pub called-joins : (e : End) (x : recorder.Call) (c : Recorders) → Joins k (c .l) (c .r) → Joins k (called e x c .l) (called e x c .r)
   unfolding called
   called-joins left x c h = record { left = h .left; right = h .right; four-l = four-after (c .l) (x .port) (x .operation) ∙ h .four-l; four-r = h .four-r }
   called-joins right x c h = record { left = h .left; right = h .right; four-l = h .four-l; four-r = four-after (c .r) (x .port) (x .operation) ∙ h .four-r }
@@ -66,7 +66,7 @@ module _ (k : Cable) where
   delivered-joins e none c h = h
   delivered-joins e (some o) c h = called-joins e _ c h
 
-  joins : (x : Happening) (c : Recorders) → Joins k (c .l) (c .r) → Joins k (exec k x c .l) (exec k x c .r)
+  pub joins : (x : Happening) (c : Recorders) → Joins k (c .l) (c .r) → Joins k (exec k x c .l) (exec k x c .r)
   unfolding exec
   joins (exchange (refused (write e out))) c h = wrote-joins e out c h
   joins (exchange (refused (frame e o))) c h = called-joins e _ c h
@@ -102,7 +102,7 @@ module _ (k : Cable) where
     delivered-right (some o) = given-right o
 
     -- a call of the exchange is what it is between two ports alone
-    call-ends : (x : Call) → ends k (exec k (exchange x) c) ≡ ports.exec x (ends k c)
+    pub call-ends : (x : Call) → ends k (exec k (exchange x) c) ≡ ports.exec x (ends k c)
     unfolding exec ports.exec
     call-ends (refused (write left out)) = wrote-ends left out
     call-ends (refused (write right out)) = wrote-ends right out
@@ -114,7 +114,7 @@ module _ (k : Cable) where
     call-ends (handles right) = delivered-right (c .from-l)
 
     -- what happens beside it leaves both ports
-    beside-ends : (e : End) (x : recorder.Call) → spares (numberAt k e) (recorderAt c e) x ≡ true → ends k (exec k (beside e x) c) ≡ ends k c
+    pub beside-ends : (e : End) (x : recorder.Call) → spares (numberAt k e) (recorderAt c e) x ≡ true → ends k (exec k (beside e x) c) ≡ ends k c
     unfolding exec called
     beside-ends left x s = rw (spared (c .l) (k .left) (h .left) (h .four-l) x s) refl
     beside-ends right x s = rw (spared (c .r) (k .right) (h .right) (h .four-r) x s) refl

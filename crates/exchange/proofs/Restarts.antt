@@ -3,9 +3,9 @@
 use Prim.Native.Nat.{ℕ, _<_}
 use native.Mathlib.Omega.{arith}
 use mathlib.Core.Path.{_≡_, refl, sym, ap, _∙_}
-use mathlib.Core.Bool.{Bool, true, false, not, _&&_, Bool·beq, false≢true}
+use mathlib.Core.Bool.{Bool, true, false, not, Bool·beq, false≢true}
 use mathlib.Core.List.{List, []}
-use Rattle.octets.specs.Words.{if_then_else_, _is_}
+use Rattle.octets.specs.Words.{if_then_else_}
 use Rattle.tlv.specs.declared.Refusal.the-variants.{NotRunning}
 use Rattle.tlv.specs.Refusals.{refusalNumber}
 use Rattle.tlv.specs.Revisions.{hasApplications}
@@ -18,8 +18,8 @@ use Rattle.port.specs.declared.Flag.the-variants.{Admin, Receive, Transmit, Sev
 use Rattle.port.specs.declared.Port.{Port}
 use Rattle.port.specs.declared.Versions.{Versions}
 use Rattle.port.specs.declared.Raised.{Raised}
-use Rattle.port.specs.Parts.{featureOf, maxOf, withControl, withFeatures, some, flagOf, withFlag, running}
-use Rattle.port.specs.PortEvents.{withSeq, unsynced, sent, freshParts, freshPort, refused, unchanged, event, switchedOff, createdPort, settingsValid, restarts, flagNotice, flagSet, flagged, peerGone}
+use Rattle.port.specs.Parts.{switchedOff, featureOf, maxOf, withControl, withFeatures, release, flagOf, withFlag, running}
+use Rattle.events.specs.PortEvents.{withSeq, raisesSeqNo, sent, freshParts, freshPort, refused, unchanged, event, createdPort, settingsValid, restarts, flagNotice, flagSet, flagged, peerGone}
 use Rattle.port.specs.Replies.{eventReply}
 use Rattle.port.specs.Sound.{SoundPort}
 use Rattle.handling.proofs.Tests.{beq-not}
@@ -80,13 +80,12 @@ module _ (p : Port) where
 
   -- the fresh state takes the flag as it is
   fresh-several : (on : Bool) → freshPort (withFlag p Several on) ≡ withFlag (freshPort p) Several on
-  unfolding freshPort sent
-  fresh-several on =
-      by (running p) (some (λ f. unsynced (featureOf (freshParts p) f)) && 0 is 0)
+  unfolding freshPort sent raisesSeqNo
+  fresh-several on = by (running p) (raisesSeqNo (freshParts p))
     where
       state : Port → Bool → Bool → Port
       state q a b =
-          if a then if b then withControl q (withSeq (q .control) (next (q .control .seq))) else q
+          if a then if b then release (withControl q (withSeq (q .control) (next (q .control .seq)))) else q
           else withFeatures q (λ f. stopped (featureOf q f))
 
       by : (a b : Bool) → state (freshParts (withFlag p Several on)) a b ≡ withFlag (state (freshParts p) a b) Several on

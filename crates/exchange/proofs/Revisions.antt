@@ -8,10 +8,10 @@ use Rattle.parameters.specs.declared.Feature.the-variants.{Applications}
 use Rattle.feature.specs.declared.Reason.the-variants.{Absent}
 use Rattle.feature.specs.declared.Outcome.{Outcome}
 use Rattle.feature.specs.declared.Setting.{Setting}
-use Rattle.feature.specs.declared.State.{State}
-use Rattle.feature.specs.State.{subTlv}
+use Rattle.feature.specs.State.{releaseTlv}
 use Rattle.feature.specs.Outcome.{outcome}
 use Rattle.port.specs.declared.Port.{Port}
+use Rattle.port.specs.Writing.{releasedTlv}
 use Rattle.port.specs.Sound.{SoundPort}
 use Rattle.recorder.specs.Recorder.{portAt}
 use Rattle.recorder.proofs.Reachable.{reachable-sound}
@@ -43,17 +43,18 @@ unlike-ends c h =
     record {
       left = λ e d rs p n. beside-older (c .l) (c .r) _ (h .r .sound) d (demand3 c h .settles rs p n .0);
       right = λ e d rs p n. beside-older (c .r) (c .l) _ (h .l .sound) d (demand3 c h .settles rs p n .1);
-      settled-left = λ e d rs p z. beside-older (c .l) (c .r) _ (h .r .sound) d (demand3 c h .agrees rs p .0 z);
-      settled-right = λ e d rs p z. beside-older (c .r) (c .l) _ (h .l .sound) d (demand3 c h .agrees rs p .1 z);
+      settled-left = λ e d rs p y z. beside-older (c .l) (c .r) _ (h .r .sound) d (demand3 c h .agrees rs p y z .0);
+      settled-right = λ e d rs p y z. beside-older (c .r) (c .l) _ (h .l .sound) d (demand3 c h .agrees rs p y z .1);
     }
 
-nothing-written : (x : State) → x .setting .advertise ≡ false → subTlv Applications x ≡ []
-unfolding subTlv
-nothing-written x e = rw e refl
+nothing-written : (p : Port) → p .released .applications .setting .advertise ≡ false → releasedTlv p Applications ≡ []
+unfolding releaseTlv
+nothing-written p e = rw e refl
 
 pub writes-no-applications : WritesNoApplications
+unfolding hasApplications
 writes-no-applications r h n e =
     let p : Port = portAt r n in
     let s : SoundPort p = reachable-sound r h .ports n in
-    let a : p .applications .setting .advertise ≡ false = older-silent p s e in
-    record { none = nothing-written (p .applications) a; contents = frames.contents p s; accepted = frames.accepted p s; count = frames.none-written p s a }
+    let a : p .released .applications .setting .advertise ≡ false = ap (λ (t : Setting). t .advertise) (s .withheld (ap hasApplications e)) in
+    record { none = nothing-written p a; contents = frames.contents p s; accepted = frames.accepted p s; count = frames.none-written p s a }

@@ -6,14 +6,14 @@ use mathlib.Core.List.{List, [], _∷_}
 use mathlib.Core.Option.{Option, none, some}
 use Rattle.port.specs.declared.Port.{Port}
 use Rattle.port.specs.Parts.{running}
-use Rattle.port.specs.PortEvents.{completed}
+use Rattle.events.specs.PortEvents.{completed}
 use Rattle.port.specs.Writing as writing
 use Rattle.handling.specs.Handling.{Message, once}
 use Rattle.handling.specs.Handling as handling
 use Rattle.port.specs.Sound.{SoundPort}
 use Rattle.exchange.specs.Rounds.{left, right, write, frame, Call, refused, writes, handles, Ends, afterWrite, onItsWay, delivered, exec, execAll, Accepts, RefusesWrite, RefusesFrame, Answers, Proper}
 use Rattle.exchange.proofs.Core.{Settings, Core, message, recv}
-use Rattle.exchange.proofs.View.{settings, view, Kept, runs-same, view-marked, kept-marked, view-once, kept-once}
+use Rattle.exchange.proofs.View.{settings, view, Kept, Offers, runs-same, view-marked, kept-marked, offers-marked, view-once, kept-once, offers-once}
 use Rattle.exchange.proofs.Calls.{write-leaves, refused-marks, delivered-port}
 use Rattle.handling.proofs.Soundness.{once-kept, completed-sound}
 use Rattle.handling.proofs.Standing.{rejected-sound}
@@ -25,6 +25,7 @@ pub record Runs (s : Settings) (p : Port) : Type 0 where
   pub runs : running p ≡ true
   pub single : p .several ≡ false
   pub set : settings p ≡ s
+  pub offers : Offers p
 
 -- octets on their way, and the message that they are
 abbrev pub Link : Settings → Option (List ℕ) → Option Message → Type 0
@@ -45,6 +46,7 @@ runs-next s t p q h k =
       runs = runs-same p (completed p (once m p)) e ∙ h .runs;
       single = e .several ∙ h .single;
       set = e .settings ∙ h .set;
+      offers = offers-once m p (h .offers);
     }
 
 -- an end that is given what its peer wrote
@@ -58,7 +60,7 @@ given-next own peer p b (some o) (some m) h v k =
     let q : Port = k .0 in
     let g : message (settings q) (view q) ≡ m = ap (λ (x : Settings). message x (view q)) (k .1 .set) ∙ sym (k .3) in
     let e : handling.handled p o .port ≡ completed p (once (message (settings q) (view q)) p) =
-    ap (λ x. handling.handled p x .port) (k .2) ∙ delivered-port p q (h .runs) (h .single) (h .sound) (k .1 .sound) in (
+    ap (λ x. handling.handled p x .port) (k .2) ∙ delivered-port p q (h .runs) (h .single) (h .sound) (k .1 .sound) (k .1 .offers) in (
       subst (Runs own) (sym e) (runs-next own peer p q h (k .1)),
       ap view e ∙ view-once (message (settings q) (view q)) p ∙ (λ i. recv (h .set i) (v i) (g i)),
     )
@@ -74,7 +76,7 @@ refused-next own p b o a h v =
     let e : handling.handled p o .port ≡ q = refused-marks p o why (a .1) (a .2) in
     let m : Kept p q = kept-marked p k in
     let runs : Runs own q =
-    record { sound = rejected-sound why 0 p (h .sound); runs = runs-same p q m ∙ h .runs; single = m .several ∙ h .single; set = m .settings ∙ h .set } in
+    record { sound = rejected-sound why 0 p (h .sound); runs = runs-same p q m ∙ h .runs; single = m .several ∙ h .single; set = m .settings ∙ h .set; offers = offers-marked p k (h .offers) } in
     (subst (Runs own) (sym e) runs, ap view e ∙ view-marked p k ∙ v)
 
 -- what a write leaves on its way

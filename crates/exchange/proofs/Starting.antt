@@ -16,8 +16,8 @@ use Rattle.notices.specs.PortLaws.{port-is}
 use Rattle.port.specs.declared.Flag.{Flag}
 use Rattle.port.specs.declared.Flag.the-variants.{Several}
 use Rattle.port.specs.declared.Versions.{Versions}
-use Rattle.port.specs.PortEvents.{refused, made, createdPort, settingsValid, versionsFor, switchesFor, parametersFor, flagged, peerGone}
-use Rattle.port.specs.PortEvents as events
+use Rattle.events.specs.PortEvents.{refused, made, createdPort, settingsValid, versionsFor, switchesFor, parametersFor, flagged, peerGone}
+use Rattle.events.specs.PortEvents as events
 use Rattle.port.specs.Replies.{eventReply}
 use Rattle.handling.proofs.Standing.{Standing}
 use Rattle.recorder.specs.declared.Recorder.{Recorder}
@@ -49,7 +49,7 @@ module _ (n : ℕ) (p : PortNumber n) (r : Recorder) (four : length (r .ports) �
 
 module _ (r : Recorder) (h : SoundRecorder r) (n : ℕ) where
   stands : Standing (portAt r n)
-  stands = record { sound = h .ports n; stopped = h .stopped n }
+  stands = record { sound = h .ports n; steps = h .steps n; stopped = h .stopped n }
 
   restarts-by : PortNumber n → portAt r n .several ≡ false → Restarts r n
   restarts-by p single =

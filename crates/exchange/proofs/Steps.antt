@@ -1,7 +1,7 @@
 -- Steps 3 to 5 of one feature, seen as what they do to its machine; they leave its side. Assumes nothing.
 use Prim.Native.Nat.{ℕ}
 use mathlib.Core.Path.{_≡_, refl, ap, _∙_}
-use mathlib.Core.Bool.{Bool, true, false, _&&_, Bool·beq, and-true, and-false}
+use mathlib.Core.Bool.{Bool, true, false, not, Bool·beq, and-true}
 use mathlib.Core.List.{[]}
 use Rattle.octets.specs.Words.{if_then_else_, _is_}
 use Rattle.octets.specs.Octets.{same, headed}
@@ -11,7 +11,7 @@ use Rattle.parameters.specs.Parameters.{featureNumber, content}
 use Rattle.feature.specs.declared.Outcome.{Outcome}
 use Rattle.feature.specs.declared.State.{State}
 use Rattle.feature.specs.Outcome.{Received, outcome}
-use Rattle.feature.specs.State.{next, flags, value, withOutcome, subTlv}
+use Rattle.feature.specs.State.{next, flags, value, withOutcome, present, releaseTlv, subTlv}
 use Rattle.feature.specs.State as state
 use Rattle.exchange.specs.Rounds.{Side}
 use Rattle.exchange.proofs.Core as core
@@ -38,9 +38,9 @@ same-flags false false true false = refl
 same-flags false false false true = refl
 same-flags false false false false = refl
 
-subTlv-is : (f : Feature) (x : State) → x .setting .advertise ≡ true → subTlv f x ≡ headed (featureNumber f) (value x)
-unfolding subTlv
-subTlv-is f x a = ap (λ b. if b then headed (featureNumber f) (value x) else []) a
+subTlv-is : (f : Feature) (x : State) → x .setting .advertise ≡ true → subTlv f x ≡ headed (featureNumber f) (value (x .max) (present x))
+unfolding releaseTlv
+subTlv-is f x a = ap (λ b. if b then headed (featureNumber f) (value (x .max) (present x)) else []) a
 
 abbrev pub sideOfState : State → Side
 sideOfState x = record { max = x .max; setting = x .setting }
@@ -51,7 +51,7 @@ after rcvd seq x o = withOutcome (state.acknowledged rcvd seq x) o
 
 changed-octets : (f : Feature) (x : State) (rcvd seq : ℕ) (o : Outcome) → x .setting .advertise ≡ true →
     state.changed f x (after rcvd seq x o) ≡ core.changed (x .outcome) o
-unfolding state.changed core.changed state.acknowledged same
+unfolding state.differing core.changed state.acknowledged same
 changed-octets f x rcvd seq o a =
     simp (subTlv-is f x a, subTlv-is f (after rcvd seq x o) a, is-same, same-flags)
     (rw (same-refl (content (x .setting .desired)), and-true (Bool·beq (x .outcome .error) (o .error))))
@@ -62,14 +62,14 @@ changed-octets f x rcvd seq o a =
 abbrev asked : ℕ → State → State
 asked seq x = record { max = x .max; setting = x .setting; outcome = x .outcome; syncd = false; sequence = next seq }
 
-marked-by : (f : Feature) (seq : ℕ) (x y : State) (b : Bool) → (y .setting .advertise && state.changed f x y) ≡ b →
+marked-by : (f : Feature) (seq : ℕ) (x y : State) (b : Bool) → state.changed f x y ≡ b →
     state.marked f seq x y ≡ (if b then asked seq y else y)
 unfolding state.marked
 marked-by f seq x y b e = ap (λ c. if c then asked seq y else y) e
 
 pub marked-same : (f : Feature) (seq : ℕ) (x : State) → state.marked f seq x x ≡ x
-unfolding state.changed
-marked-same f seq x = marked-by f seq x x false (simp (same-refl, and-false))
+unfolding state.differing
+marked-same f seq x = marked-by f seq x x false (ap not (same-refl (subTlv f x)))
 
 -- a feature after steps 3 to 5
 abbrev pub stepped : Feature → ℕ → ℕ → Received → State → State
@@ -86,18 +86,16 @@ module _ (f : Feature) (rcvd seq : ℕ) (r : Received) (x : State) where
   received-by b a = ap (λ c. if c then after rcvd seq x ruled else state.acknowledged rcvd seq x) a
 
   stepped-idle : x .setting .advertise ≡ false → stepped f rcvd seq r x ≡ state.acknowledged rcvd seq x
-  unfolding state.acknowledged
+  unfolding state.acknowledged state.differing
   stepped-idle a =
-      ap (state.marked f seq x) (received-by false a)
-      ∙ marked-by f seq x (state.acknowledged rcvd seq x) false (ap (λ b. b && state.changed f x (state.acknowledged rcvd seq x)) a)
+      ap (state.marked f seq x) (received-by false a) ∙ marked-by f seq x (state.acknowledged rcvd seq x) false (ap not (same-refl (subTlv f x)))
 
   stepped-by : x .setting .advertise ≡ true →
       stepped f rcvd seq r x ≡ (if core.changed (x .outcome) ruled then asked seq (after rcvd seq x ruled) else after rcvd seq x ruled)
   unfolding state.acknowledged
   stepped-by a =
       ap (state.marked f seq x) (received-by true a)
-      ∙ marked-by f seq x (after rcvd seq x ruled) (core.changed (x .outcome) ruled)
-      (ap (λ b. b && state.changed f x (after rcvd seq x ruled)) a ∙ changed-octets f x rcvd seq ruled a)
+      ∙ marked-by f seq x (after rcvd seq x ruled) (core.changed (x .outcome) ruled) (changed-octets f x rcvd seq ruled a)
 
   asked-side : (b : Bool) → sideOfState (if b then asked seq (after rcvd seq x ruled) else after rcvd seq x ruled) ≡ sideOfState x
   unfolding state.acknowledged

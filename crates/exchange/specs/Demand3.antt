@@ -10,7 +10,7 @@ use Rattle.feature.specs.Outcome.{lower}
 use Rattle.feature.specs.Outcome as rules
 use Rattle.port.specs.declared.Port.{Port}
 use Rattle.port.specs.Parts.{featureOf, running}
-use Rattle.port.specs.PortEvents.{freshPort}
+use Rattle.events.specs.PortEvents.{freshPort}
 use Rattle.port.specs.Settled.{settled}
 use Rattle.port.specs.Sound.{SoundPort}
 use Rattle.exchange.specs.Rounds.{Ends, Round, Lossy, sideOf, rounds, lossyRounds, execAll, Proper, expected}
@@ -59,14 +59,14 @@ BothAgreed before now = Agreed (before .l) (before .r) (now .l) × Agreed (befor
 abbrev pub BothTruthful : Ends → Ends → Type 0
 BothTruthful before now = Truthful (before .r) (now .l) × Truthful (before .l) (now .r)
 
--- settled means agreed: an end at which the exchange has come to rest (a peer is seen, RcvdAckNo = SeqNo, every advertised feature is
--- Syncd) has agreed, whatever holds of the other end
+-- settled means agreed: two ends at which the exchange has come to rest (a peer is seen, RcvdAckNo = SeqNo, every advertised feature is
+-- Syncd) have agreed. Of one settled end alone that is false: what its peer has become may wait, and is not written yet (02, E5)
 abbrev pub SettledAgreed : Ends → Ends → Type 0
-SettledAgreed before now =
-    (settled (now .l) ≡ true → Agreed (before .l) (before .r) (now .l)) × (settled (now .r) ≡ true → Agreed (before .r) (before .l) (now .r))
+SettledAgreed before now = settled (now .l) ≡ true → settled (now .r) ≡ true → BothAgreed before now
 
--- five rounds agree; rounds of any number and with any losses leave both ends truthful, and settled ones agreed
+-- Six or more rounds agree: demand 3 says five or more, and 02, E5: "The five in demand 3 becomes the smallest number that holds for all
+-- settings". Rounds of any number and with any losses leave both ends truthful, and agreed where both are settled.
 pub record Demand3 (c : Ends) : Type 0 where
-  pub settles : (rs : List Round) → Proper (rounds rs) c → 5 ≤ length rs → BothAgreed c (execAll (rounds rs) c)
+  pub settles : (rs : List Round) → Proper (rounds rs) c → 6 ≤ length rs → BothAgreed c (execAll (rounds rs) c)
   pub truthful : (rs : List Lossy) → Proper (lossyRounds rs) c → BothTruthful c (execAll (lossyRounds rs) c)
   pub agrees : (rs : List Lossy) → Proper (lossyRounds rs) c → SettledAgreed c (execAll (lossyRounds rs) c)

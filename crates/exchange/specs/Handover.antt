@@ -99,11 +99,10 @@ pub record Alike (p q : Port) : Type 0 where
 abbrev pub OutcomesSwapped : Ends → Ends → Type 0
 OutcomesSwapped before now = Alike (before .l) (now .r) × Alike (before .r) (now .l)
 
--- if it was settled, and is
+-- if both were settled, and both are
 abbrev pub SettledSwapped : Ends → Ends → Type 0
 SettledSwapped before now =
-    (settled (before .l) ≡ true → settled (now .r) ≡ true → Alike (before .l) (now .r))
-    × (settled (before .r) ≡ true → settled (now .l) ≡ true → Alike (before .r) (now .l))
+    settled (before .l) ≡ true → settled (before .r) ≡ true → settled (now .l) ≡ true → settled (now .r) ≡ true → OutcomesSwapped before now
 
 -- a feature that both advertise has one mode and one Error
 abbrev pub SameEnds : Ends → Ends → Type 0
@@ -111,14 +110,14 @@ SameEnds started now =
     (f : Feature) → featureOf (started .l) f .setting .advertise ≡ true → featureOf (started .r) f .setting .advertise ≡ true
     → SameAtBoth (featureOf (now .l) f .outcome) (featureOf (now .r) f .outcome)
 
--- Of two ends that have just started, and of the same ends just started with their roles swapped: five or more rounds each, in whatever
+-- Of two ends that have just started, and of the same ends just started with their roles swapped: six or more rounds each, in whatever
 -- order and with whatever refused calls; or rounds of any number with any losses, if they have settled.
 pub record Handover (c d : Ends) : Type 0 where
-  pub swaps : (rs ss : List Round) → Proper (rounds rs) c → Proper (rounds ss) d → 5 ≤ length rs → 5 ≤ length ss
+  pub swaps : (rs ss : List Round) → Proper (rounds rs) c → Proper (rounds ss) d → 6 ≤ length rs → 6 ≤ length ss
       → OutcomesSwapped (execAll (rounds rs) c) (execAll (rounds ss) d)
   pub settled-swaps : (rs ss : List Lossy) → Proper (lossyRounds rs) c → Proper (lossyRounds ss) d
       → SettledSwapped (execAll (lossyRounds rs) c) (execAll (lossyRounds ss) d)
-  pub same : (rs : List Round) → Proper (rounds rs) c → 5 ≤ length rs → SameEnds c (execAll (rounds rs) c)
+  pub same : (rs : List Round) → Proper (rounds rs) c → 6 ≤ length rs → SameEnds c (execAll (rounds rs) c)
   pub settled-same : (rs : List Lossy) → Proper (lossyRounds rs) c → settled (execAll (lossyRounds rs) c .l) ≡ true
       → settled (execAll (lossyRounds rs) c .r) ≡ true → SameEnds c (execAll (lossyRounds rs) c)
 
@@ -126,12 +125,12 @@ pub record Handover (c d : Ends) : Type 0 where
 -- ports with the same settings.
 pub record JoinedHandover (k : Cable) (c : Recorders) (j : Cable) (d : Recorders) : Type 0 where
   pub swaps : (xs ys : List Happening) → recorders.Proper k xs c → recorders.Proper j ys d
-      → (rs ss : List Round) → exchanged xs ≡ rounds rs → exchanged ys ≡ rounds ss → 5 ≤ length rs → 5 ≤ length ss
+      → (rs ss : List Round) → exchanged xs ≡ rounds rs → exchanged ys ≡ rounds ss → 6 ≤ length rs → 6 ≤ length ss
       → OutcomesSwapped (ends k (recorders.execAll k xs c)) (ends j (recorders.execAll j ys d))
   pub settled-swaps : (xs ys : List Happening) → recorders.Proper k xs c → recorders.Proper j ys d
       → (rs ss : List Lossy) → exchanged xs ≡ lossyRounds rs → exchanged ys ≡ lossyRounds ss
       → SettledSwapped (ends k (recorders.execAll k xs c)) (ends j (recorders.execAll j ys d))
-  pub same : (xs : List Happening) → recorders.Proper k xs c → (rs : List Round) → exchanged xs ≡ rounds rs → 5 ≤ length rs
+  pub same : (xs : List Happening) → recorders.Proper k xs c → (rs : List Round) → exchanged xs ≡ rounds rs → 6 ≤ length rs
       → SameEnds (ends k c) (ends k (recorders.execAll k xs c))
   pub settled-same : (xs : List Happening) → recorders.Proper k xs c → (rs : List Lossy) → exchanged xs ≡ lossyRounds rs
       → settled (ends k (recorders.execAll k xs c) .l) ≡ true → settled (ends k (recorders.execAll k xs c) .r) ≡ true

@@ -5,6 +5,4 @@ pub mod Demand3
 pub mod Recorders
 pub mod Handover
 pub mod Starting
-pub mod Trials
-pub mod Worked
 pub mod Revisions

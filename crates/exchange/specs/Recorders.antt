@@ -112,7 +112,7 @@ pub record Joins (k : Cable) (l r : Recorder) : Type 0 where
 
 -- demand 3 of the two ports, over any list of what happens in which the calls of the exchange are those of rounds
 pub record JoinedDemand3 (k : Cable) (c : Recorders) : Type 0 where
-  pub settles : (xs : List Happening) → Proper k xs c → (rs : List Round) → exchanged xs ≡ rounds rs → 5 ≤ length rs
+  pub settles : (xs : List Happening) → Proper k xs c → (rs : List Round) → exchanged xs ≡ rounds rs → 6 ≤ length rs
       → BothAgreed (ends k c) (ends k (execAll k xs c))
   pub truthful : (xs : List Happening) → Proper k xs c → (rs : List Lossy) → exchanged xs ≡ lossyRounds rs
       → BothTruthful (ends k c) (ends k (execAll k xs c))

@@ -11,10 +11,9 @@ use Rattle.tlv.specs.declared.Reading.the-variants.{Accepted}
 use Rattle.tlv.specs.Layout.{readFrame}
 use Rattle.parameters.specs.declared.Feature.the-variants.{Applications}
 use Rattle.feature.specs.declared.Reason.the-variants.{NoPeerYet, Absent}
-use Rattle.feature.specs.State.{subTlv}
 use Rattle.port.specs.declared.Port.{Port}
 use Rattle.port.specs.Settled.{settled}
-use Rattle.port.specs.Writing.{frame}
+use Rattle.port.specs.Writing.{releasedTlv, frame}
 use Rattle.recorder.specs.declared.Recorder.{Recorder}
 use Rattle.recorder.specs.Recorder.{portAt}
 use Rattle.recorder.specs.Sound.{Reachable}
@@ -27,20 +26,20 @@ pub record BesideOlder (own peer p : Port) : Type 0 where
   pub absent : own .applications .setting .advertise ≡ true → p .applications .outcome .reason ≡ Absent
   pub agreed : Agreed own peer p
 
--- between a 1.01 end and a 1.0 end, on either side: after five or more rounds; and after any rounds with any losses, if the 1.01 end is settled
+-- between a 1.01 end and a 1.0 end, on either side: after six or more rounds; and after any rounds with any losses, if both ends are settled
 pub record UnlikeEnds (c : Ends) : Type 0 where
-  pub left : c .l .revision ≡ Rev101 → c .r .revision ≡ Rev10 → (rs : List Round) → Proper (rounds rs) c → 5 ≤ length rs
+  pub left : c .l .revision ≡ Rev101 → c .r .revision ≡ Rev10 → (rs : List Round) → Proper (rounds rs) c → 6 ≤ length rs
       → BesideOlder (c .l) (c .r) (execAll (rounds rs) c .l)
-  pub right : c .r .revision ≡ Rev101 → c .l .revision ≡ Rev10 → (rs : List Round) → Proper (rounds rs) c → 5 ≤ length rs
+  pub right : c .r .revision ≡ Rev101 → c .l .revision ≡ Rev10 → (rs : List Round) → Proper (rounds rs) c → 6 ≤ length rs
       → BesideOlder (c .r) (c .l) (execAll (rounds rs) c .r)
   pub settled-left : c .l .revision ≡ Rev101 → c .r .revision ≡ Rev10 → (rs : List Lossy) → Proper (lossyRounds rs) c
-      → settled (execAll (lossyRounds rs) c .l) ≡ true → BesideOlder (c .l) (c .r) (execAll (lossyRounds rs) c .l)
+      → settled (execAll (lossyRounds rs) c .l) ≡ true → settled (execAll (lossyRounds rs) c .r) ≡ true → BesideOlder (c .l) (c .r) (execAll (lossyRounds rs) c .l)
   pub settled-right : c .r .revision ≡ Rev101 → c .l .revision ≡ Rev10 → (rs : List Lossy) → Proper (lossyRounds rs) c
-      → settled (execAll (lossyRounds rs) c .r) ≡ true → BesideOlder (c .r) (c .l) (execAll (lossyRounds rs) c .r)
+      → settled (execAll (lossyRounds rs) c .l) ≡ true → settled (execAll (lossyRounds rs) c .r) ≡ true → BesideOlder (c .r) (c .l) (execAll (lossyRounds rs) c .r)
 
 -- what a port writes has no sub-TLV of type 4; and a reader, who accepts it, finds none
 pub record WritesNone (p : Port) : Type 0 where
-  pub none : subTlv Applications (p .applications) ≡ []
+  pub none : releasedTlv p Applications ≡ []
   pub contents : Contents
   pub accepted : readFrame (frame p) ≡ Accepted contents
   pub count : contents .applications .count ≡ 0

@@ -10,7 +10,7 @@ use Rattle.port.specs.declared.Port.{Port}
 use Rattle.port.specs.declared.Event.{Event}
 use Rattle.port.specs.declared.Written.{Written}
 use Rattle.port.specs.declared.Written.the-variants as wrote
-use Rattle.port.specs.PortEvents.{unchanged}
+use Rattle.events.specs.PortEvents.{unchanged}
 use Rattle.port.specs.Writing.{Wrote}
 use Rattle.port.specs.Settled.{settled}
 use Rattle.handling.specs.Handling.{handled}

@@ -20,7 +20,7 @@ use Rattle.port.specs.declared.Written.the-variants as wrote
 use Rattle.port.specs.declared.Answer.the-variants as answer
 use Rattle.port.specs.Parts.{featureOf}
 use Rattle.port.specs.Writing.{written, output}
-use Rattle.port.specs.PortEvents.{unchanged}
+use Rattle.events.specs.PortEvents.{unchanged}
 use Rattle.handling.specs.Handling.{handled}
 
 pub data End : Type 0 where

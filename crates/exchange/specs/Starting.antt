@@ -11,7 +11,7 @@ use Rattle.port.specs.declared.Flag.{Flag}
 use Rattle.port.specs.declared.Flag.the-variants.{Several}
 use Rattle.port.specs.declared.Versions.{Versions}
 use Rattle.port.specs.Parts.{running}
-use Rattle.port.specs.PortEvents.{freshPort}
+use Rattle.events.specs.PortEvents.{freshPort}
 use Rattle.recorder.specs.declared.Recorder.{Recorder}
 use Rattle.recorder.specs.Recorder.{portAt}
 use Rattle.recorder.specs.Calls.{create, afterAt, replyAt}

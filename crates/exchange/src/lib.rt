@@ -26,7 +26,7 @@ fn deliver(p: Port, w: Written, out: &[u8]) -> Event
             return handling::handle(p, octets::first(out, n));
         }
         Written::Refused(_) => {
-            return port::events::unchanged(p);
+            return events::unchanged(p);
         }
     }
 }
@@ -56,7 +56,7 @@ pub fn round(l: Port, r: Port, out_l: &mut [u8], out_r: &mut [u8]) -> Pair
 pub fn settled(l: Port, r: Port) -> bool
     ensures { λ b. ⌜ b ≡ (settled l && settled r) ⌝ }
 {
-    let left = port::events::settled(l);
-    let right = port::events::settled(r);
+    let left = events::settled(l);
+    let right = events::settled(r);
     left & right
 }

@@ -16,7 +16,7 @@ use Rattle.parameters.specs.ApplicationsLaws.{Entries, entries-told, entries-va
 use Rattle.parameters.specs.Parameters.{goodHalves, percentages, groupsNumber, sum, validGroups, flowNumber, mask, validFlow, ones, entryCount, selectorOf, allFrom, newName, isOurs, ours, valid, localValues, validLocal}
 use Rattle.faults.specs.declared.Fault.{Fault}
 use Rattle.faults.specs.declared.Fault.the-variants as Fault
-use Rattle.faults.specs.Faults.{firstNot, goodPriority, badPriority, groupsFault, flowFault, foreignEntry, secondEntry, firstEntry, lowSelector, highSelector, applicationsFault, faultOf}
+use Rattle.faults.specs.Faults.{goodPriority, badPriority, groupsFault, flowFault, foreignEntry, secondEntry, firstEntry, lowSelector, highSelector, applicationsFault, faultOf}
 use Rattle.faults.specs.FaultsLaws.{all-pass}
 
 unfoldable pub isNone : Fault → Bool

@@ -1,12 +1,12 @@
 -- Laws of the search for a fault. Assumes nothing.
-use Prim.Native.Nat.{ℕ, zero, suc, _+_, _-_, _*_, _/_, _%_, _≤_, _<_}
+use Prim.Native.Nat.{ℕ, zero, suc, _+_, _-_, _/_, _%_, _≤_, _<_}
 use native.Mathlib.Omega.{arith}
 use mathlib.Core.Path.{_≡_, refl, sym, ap, _∙_}
 use mathlib.Core.Bool.{Bool, true, false, not}
 use mathlib.Core.List.{List}
 use lib.ListN.{length}
 use borrow.Author.Tests.{lt-ltb, le-ltb, le-leb, lt-leb, eq-eqb, ne-eqb, not-true, not-false}
-use Rattle.octets.specs.Words.{if_then_else_, _below_, _atmost_, _is_}
+use Rattle.octets.specs.Words.{_below_, _atmost_, _is_}
 use Rattle.octets.specs.Octets.{at}
 use Rattle.parameters.specs.declared.Feature.{Feature}
 use Rattle.parameters.specs.declared.Feature.the-variants.{Groups, Flow, Applications}

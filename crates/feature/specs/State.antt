@@ -1,17 +1,16 @@
 -- 01, Port events and Handling a frame: what concerns one feature's state.
-use Prim.Native.Nat.{ℕ, _+_, _*_, _/_, _%_, _^_}
+use Prim.Native.Nat.{ℕ, _+_, _%_, _^_}
 use mathlib.Core.Bool.{Bool, true, false, not, _&&_, _||_, Bool·beq}
-use mathlib.Core.List.{List, [], _∷_, _++_}
-use lib.ListN.{length}
+use mathlib.Core.List.{List, [], _∷_}
 use Rattle.octets.specs.Words.{if_then_else_, _is_}
 use Rattle.octets.specs.Octets.{headed, same}
 use Rattle.parameters.specs.declared.Feature.{Feature}
-use Rattle.feature.specs.declared.Reason.{Reason}
 use Rattle.feature.specs.declared.Reason.the-variants.{NoPeerYet, NotAdvertised, ControlTwice}
 use Rattle.feature.specs.declared.Switches.{Switches}
 use Rattle.feature.specs.declared.Setting.{Setting}
 use Rattle.feature.specs.declared.Outcome.{Outcome}
 use Rattle.feature.specs.declared.State.{State}
+use Rattle.feature.specs.declared.Release.{Release}
 use Rattle.parameters.specs.Parameters.{featureNumber, ours, stored, content, sameParameters}
 use Rattle.feature.specs.Outcome.{Received, noPeer, withoutPeer, judged, outcome}
 
@@ -53,13 +52,20 @@ abbrev pub flags : Bool → Bool → Bool → ℕ
 flags enable willing error = (if enable then 128 else 0) + (if willing then 64 else 0) + (if error then 32 else 0)
 
 -- "Types 2 to 4, features: Oper, Max, flags, SubType, then parameters."
-abbrev pub value : State → List ℕ
-value x =
-    x .outcome .oper ∷ x .max ∷ flags (x .setting .enable) (x .setting .willing) (x .outcome .error) ∷ 0 ∷ content (x .setting .desired)
+abbrev pub value : ℕ → Release → List ℕ
+value max r = r .oper ∷ max ∷ flags (r .setting .enable) (r .setting .willing) (r .error) ∷ 0 ∷ content (r .setting .desired)
 
--- the sub-TLV that is written: none where the feature is not advertised
-unfoldable pub subTlv : Feature → State → List ℕ
-subTlv f x = if x .setting .advertise then headed (featureNumber f) (value x) else []
+-- the sub-TLV that a release writes: none where the feature is not advertised
+unfoldable pub releaseTlv : Feature → ℕ → Release → List ℕ
+releaseTlv f max r = if r .setting .advertise then headed (featureNumber f) (value max r) else []
+
+-- what a release would write at present
+abbrev pub present : State → Release
+present x = record { setting = x .setting; oper = x .outcome .oper; error = x .outcome .error }
+
+-- 02, E5: "The port shall keep, beside each feature's present state, the sub-TLV last released": this is the present one
+abbrev pub subTlv : Feature → State → List ℕ
+subTlv f x = releaseTlv f (x .max) (present x)
 
 -- ---- Handling
 
@@ -80,15 +86,19 @@ received f r x =
     if x .setting .advertise then withOutcome x (outcome f (x .max) (x .setting) (x .outcome .oper) r)
     else x
 
+-- two releases write different sub-TLVs, each of a feature with its Max
+unfoldable pub differing : Feature → ℕ → Release → ℕ → Release → Bool
+differing f m r n s = not (same (releaseTlv f m r) (releaseTlv f n s))
+
 -- Step 5: "For each advertised feature whose written sub-TLV changed in this event: Syncd false, FeatureSeqNo = SeqNo + 1
--- (wrapping)." The state before the event and after it.
-unfoldable pub changed : Feature → State → State → Bool
-changed f before after = not (same (subTlv f before) (subTlv f after))
+-- (wrapping)." 02, E5: "step 5 compares present sub-TLVs, a withdrawal is a change", so that it is of each feature. The state before the event
+-- and after it.
+abbrev pub changed : Feature → State → State → Bool
+changed f before after = differing f (before .max) (present before) (after .max) (present after)
 
 unfoldable pub marked : Feature → ℕ → State → State → State
 marked f seq before after =
-    if after .setting .advertise && changed f before after then
-    record { max = after .max; setting = after .setting; outcome = after .outcome; syncd = false; sequence = next seq }
+    if changed f before after then record { max = after .max; setting = after .setting; outcome = after .outcome; syncd = false; sequence = next seq }
     else after
 
 -- ---- Settings
@@ -112,7 +122,8 @@ judgedAgain f s o =
     else if o .peer .held then judged f s (o .oper) (o .peer)
     else record { reason = o .reason; oper = o .oper; error = o .error; mode = o .mode; peer = o .peer; adopts = false }
 
--- "If Advertise goes false or true, the feature becomes as in the fresh state, except that FeatureSeqNo = SeqNo + 1."
+-- "If Advertise goes false or true, the feature becomes as in the fresh state, except that FeatureSeqNo = SeqNo + 1." Step 5 then takes Syncd away, also
+-- of one that is withdrawn (02, E5).
 unfoldable pub reset : Feature → ℕ → Setting → State → State
 reset f seq s x =
     if Bool·beq (x .setting .advertise) (s .advertise) then

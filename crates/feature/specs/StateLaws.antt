@@ -22,10 +22,11 @@ use Rattle.feature.specs.declared.Flags.{Flags}
 use Rattle.feature.specs.declared.Switches.{Switches}
 use Rattle.feature.specs.declared.Outcome.{Outcome}
 use Rattle.feature.specs.declared.State.{State}
+use Rattle.feature.specs.declared.Release.{Release}
 use Rattle.feature.specs.Outcome.{withoutPeer, judged}
 use Rattle.feature.specs.OutcomeLaws.{decided, outcomeOf, peerOf, judged-lent, judgedOn, judges, switchesOf, withMode}
 use Rattle.feature.specs.RulesLaws.{judged-peer}
-use Rattle.feature.specs.State.{next, freshAt, flags, value, subTlv, changed, marked, sameSetting, judgedAgain, reset}
+use Rattle.feature.specs.State.{next, freshAt, flags, value, releaseTlv, present, differing, changed, marked, sameSetting, judgedAgain, reset}
 
 module _ (sequence max : ℕ) (s : Setting) {d : Decision} {p : Parameters} {o : Outcome} (ep : p ≡ noParameters) where
   pub fresh-advertised : s .advertise ≡ true → d ≡ decided (withoutPeer NoPeerYet max false) → o ≡ outcomeOf d p
@@ -51,24 +52,24 @@ alike true false e = e
 alike false true e = sym e
 alike false false e = refl
 
-module _ (f : Feature) (x y : State) where
-  pub changed-not : subTlv f x ≡ subTlv f y → false ≡ changed f x y
-  unfolding changed
-  changed-not e = rw e (ap not (sym (same-refl (subTlv f y))))
+module _ (f : Feature) (m n : ℕ) (x y : Release) where
+  pub changed-not : releaseTlv f m x ≡ releaseTlv f n y → false ≡ differing f m x n y
+  unfolding differing
+  changed-not e = rw e (ap not (sym (same-refl (releaseTlv f n y))))
 
-  pub changed-shown : not (Bool·beq (x .setting .advertise) (y .setting .advertise)) ≡ true → true ≡ changed f x y
-  unfolding changed subTlv same
+  pub changed-shown : not (Bool·beq (x .setting .advertise) (y .setting .advertise)) ≡ true → true ≡ differing f m x n y
+  unfolding differing releaseTlv same
   changed-shown t = go (x .setting .advertise) (y .setting .advertise) refl refl t
     where
-      go : (a b : Bool) → x .setting .advertise ≡ a → y .setting .advertise ≡ b → not (Bool·beq (x .setting .advertise) (y .setting .advertise)) ≡ true → true ≡ changed f x y
+      go : (a b : Bool) → x .setting .advertise ≡ a → y .setting .advertise ≡ b → not (Bool·beq (x .setting .advertise) (y .setting .advertise)) ≡ true → true ≡ differing f m x n y
       go true true p q t = let h : false ≡ true = rw (p, q) at t in absurd (false≢true h)
       go true false p q t = rw (p, q) refl
       go false true p q t = rw (p, q) refl
       go false false p q t = let h : false ≡ true = rw (p, q) at t in absurd (false≢true h)
 
   module _ (t : not (Bool·beq (x .setting .advertise) (y .setting .advertise)) ≡ false) where
-    pub changed-hidden : not (x .setting .advertise) ≡ true → false ≡ changed f x y
-    unfolding changed subTlv same
+    pub changed-hidden : not (x .setting .advertise) ≡ true → false ≡ differing f m x n y
+    unfolding differing releaseTlv same
     changed-hidden u =
         let p : x .setting .advertise ≡ false = not-true (x .setting .advertise) u in
         let q : y .setting .advertise ≡ false = sym (alike (x .setting .advertise) (y .setting .advertise) t) ∙ p in
@@ -80,52 +81,50 @@ module _ (f : Feature) (x y : State) where
           let p : x .setting .advertise ≡ true = not-false (x .setting .advertise) u in
           (p, sym (alike (x .setting .advertise) (y .setting .advertise) t) ∙ p)
 
-      pub changed-oper : (x .outcome .oper ≡ y .outcome .oper → ⊥) → true ≡ changed f x y
-      unfolding changed subTlv same
-      changed-oper n =
-          rw (shown .0, shown .1, ne-eqb (x .outcome .oper) (y .outcome .oper) n) (simp and-false)
+      pub changed-oper : (x .oper ≡ y .oper → ⊥) → true ≡ differing f m x n y
+      unfolding differing releaseTlv same
+      changed-oper d =
+          rw (shown .0, shown .1, ne-eqb (x .oper) (y .oper) d) (simp and-false)
 
-      pub changed-max : x .outcome .oper ≡ y .outcome .oper → (x .max ≡ y .max → ⊥) → true ≡ changed f x y
-      unfolding changed subTlv same
-      changed-max e n = rw (shown .0, shown .1, ne-eqb (x .max) (y .max) n) (simp and-false)
+      pub changed-max : x .oper ≡ y .oper → (m ≡ n → ⊥) → true ≡ differing f m x n y
+      unfolding differing releaseTlv same
+      changed-max e d = rw (shown .0, shown .1, ne-eqb m n d) (simp and-false)
 
-      module _ {a b : ℕ} (ea : a ≡ flags (x .setting .enable) (x .setting .willing) (x .outcome .error)) (eb : b ≡ flags (y .setting .enable) (y .setting .willing) (y .outcome .error)) where
-        pub changed-flags : (a ≡ b → ⊥) → true ≡ changed f x y
-        unfolding changed subTlv same
-        changed-flags n =
-            rw (shown .0, shown .1, ne-eqb (flags (x .setting .enable) (x .setting .willing) (x .outcome .error)) (flags (y .setting .enable) (y .setting .willing) (y .outcome .error)) (λ z. n (ea ∙ z ∙ sym eb)))
+      module _ {a b : ℕ} (ea : a ≡ flags (x .setting .enable) (x .setting .willing) (x .error)) (eb : b ≡ flags (y .setting .enable) (y .setting .willing) (y .error)) where
+        pub changed-flags : (a ≡ b → ⊥) → true ≡ differing f m x n y
+        unfolding differing releaseTlv same
+        changed-flags d =
+            rw (shown .0, shown .1, ne-eqb (flags (x .setting .enable) (x .setting .willing) (x .error)) (flags (y .setting .enable) (y .setting .willing) (y .error)) (λ z. d (ea ∙ z ∙ sym eb)))
             (simp and-false)
 
-        pub changed-parameters : {r : Bool} → x .outcome .oper ≡ y .outcome .oper → x .max ≡ y .max → a ≡ b
-            → r ≡ same (content (x .setting .desired)) (content (y .setting .desired)) → not r ≡ changed f x y
-        unfolding changed subTlv same
-        changed-parameters {r} o m g e = rw e (go (same (content (x .setting .desired)) (content (y .setting .desired))) refl)
+        pub changed-parameters : {r : Bool} → x .oper ≡ y .oper → m ≡ n → a ≡ b
+            → r ≡ same (content (x .setting .desired)) (content (y .setting .desired)) → not r ≡ differing f m x n y
+        unfolding differing releaseTlv same
+        changed-parameters {r} o l g e = rw e (go (same (content (x .setting .desired)) (content (y .setting .desired))) refl)
           where
             go : (s : Bool) → same (content (x .setting .desired)) (content (y .setting .desired)) ≡ s
-                → not (same (content (x .setting .desired)) (content (y .setting .desired))) ≡ changed f x y
+                → not (same (content (x .setting .desired)) (content (y .setting .desired))) ≡ differing f m x n y
             go true s =
                 let c : content (x .setting .desired) ≡ content (y .setting .desired) = same-is _ _ s in
-                let h : value x ≡ value y = λ i. o i ∷ m i ∷ (sym ea ∙ g ∙ eb) i ∷ 0 ∷ c i in
-                let w : subTlv f x ≡ subTlv f y = rw (shown .0, shown .1) (ap (λ (v : List ℕ). (featureNumber f * 2 + length v / 256) ∷ (length v % 256) ∷ v) h) in
+                let h : value m x ≡ value n y = λ i. o i ∷ l i ∷ (sym ea ∙ g ∙ eb) i ∷ 0 ∷ c i in
+                let w : releaseTlv f m x ≡ releaseTlv f n y = rw (shown .0, shown .1) (ap (λ (v : List ℕ). (featureNumber f * 2 + length v / 256) ∷ (length v % 256) ∷ v) h) in
                 rw s (changed-not w)
             go false s = rw (s, shown .0, shown .1) (simp (s, and-false))
 
 -- ---- step 5
 
-module _ (f : Feature) (seq : ℕ) (x y : State) where
-  pub marked-withheld : not (y .setting .advertise) ≡ true → y ≡ marked f seq x y
+module _ (f : Feature) (seq : ℕ) (x y : State) {r s : Release} (er : r ≡ present x) (es : s ≡ present y) {d : Bool} (e : d ≡ differing f (x .max) r (y .max) s) where
+  told : d ≡ changed f x y
+  told = e ∙ (λ i. differing f (x .max) (er i) (y .max) (es i))
+
+  pub marked-same : not d ≡ true → y ≡ marked f seq x y
   unfolding marked
-  marked-withheld t = simp (not-true (y .setting .advertise) t)
+  marked-same u = simp (← told, not-true d u)
 
-  module _ (t : not (y .setting .advertise) ≡ false) {d : Bool} (e : d ≡ changed f x y) where
-    pub marked-same : not d ≡ true → y ≡ marked f seq x y
-    unfolding marked
-    marked-same u = simp (not-false (y .setting .advertise) t, ← e, not-true d u)
-
-    pub marked-changed : {n : ℕ} → not d ≡ false → n ≡ next seq
-        → record { max = y .max; setting = y .setting; outcome = y .outcome; syncd = false; sequence = n } ≡ marked f seq x y
-    unfolding marked
-    marked-changed u h = simp (h, not-false (y .setting .advertise) t, ← e, not-false d u)
+  pub marked-changed : {n : ℕ} → not d ≡ false → n ≡ next seq
+      → record { max = y .max; setting = y .setting; outcome = y .outcome; syncd = false; sequence = n } ≡ marked f seq x y
+  unfolding marked
+  marked-changed u h = simp (h, ← told, not-false d u)
 
 -- ---- settings
 
@@ -194,18 +193,18 @@ module _ (f : Feature) (seq : ℕ) (s : Setting) (x : State) where
 
 -- ---- writing
 
-pub length-subTlv : (f : Feature) (x : State) → x .setting .advertise ≡ true → length (subTlv f x) ≡ 6 + length (content (x .setting .desired))
-unfolding subTlv
-length-subTlv f x t = rw t (omega arith)
+pub length-releaseTlv : (f : Feature) (max : ℕ) (x : Release) → x .setting .advertise ≡ true → length (releaseTlv f max x) ≡ 6 + length (content (x .setting .desired))
+unfolding releaseTlv
+length-releaseTlv f max x t = rw t (omega arith)
 
 -- the number of its octets, which is at most 102
-pub record Sized (f : Feature) (x : State) (n : ℕ) : Type 0 where
-  pub is : n ≡ length (subTlv f x)
+pub record Sized (f : Feature) (max : ℕ) (x : Release) (n : ℕ) : Type 0 where
+  pub is : n ≡ length (releaseTlv f max x)
   pub small : n ≤ 102
 
-pub sized-withheld : (f : Feature) (x : State) → not (x .setting .advertise) ≡ true → Sized f x 0
-unfolding subTlv
-sized-withheld f x t = record { is = rw (not-true (x .setting .advertise) t) refl; small = omega arith }
+pub sized-withheld : (f : Feature) (max : ℕ) (x : Release) → not (x .setting .advertise) ≡ true → Sized f max x 0
+unfolding releaseTlv
+sized-withheld f max x t = record { is = rw (not-true (x .setting .advertise) t) refl; small = omega arith }
 
 pub feature-small : (f : Feature) {n : ℕ} → n ≡ featureNumber f → n ≤ 127
 unfolding featureNumber
@@ -231,24 +230,24 @@ parts-put oper max bits p out i type {a} {b} {m} {n} s e ea eb =
     let k : length v % 256 ≡ n = omega (arith, s .is, s .small) in
     eb ∙ rw (ea, ← sets-append out i ((type * 2) ∷ n ∷ oper ∷ max ∷ bits ∷ 0 ∷ []) held) (ap₂ (λ (x y : ℕ). sets out i (x ∷ y ∷ oper ∷ max ∷ bits ∷ 0 ∷ held)) (sym h) (sym k))
 
-pub nothing-put : (f : Feature) (x : State) (out : List ℕ) (i : ℕ) → not (x .setting .advertise) ≡ true → out ≡ sets out i (subTlv f x)
-unfolding subTlv
-nothing-put f x out i t = rw (not-true (x .setting .advertise) t) refl
+pub nothing-put : (f : Feature) (max : ℕ) (x : Release) (out : List ℕ) (i : ℕ) → not (x .setting .advertise) ≡ true → out ≡ sets out i (releaseTlv f max x)
+unfolding releaseTlv
+nothing-put f max x out i t = rw (not-true (x .setting .advertise) t) refl
 
 -- with the size of its parameters
-module _ (f : Feature) (x : State) (t : not (x .setting .advertise) ≡ false) where
-  pub sized-advertised : {n : ℕ} → Size (x .setting .desired) n → Sized f x (6 + n)
+module _ (f : Feature) (max : ℕ) (x : Release) (t : not (x .setting .advertise) ≡ false) where
+  pub sized-advertised : {n : ℕ} → Size (x .setting .desired) n → Sized f max x (6 + n)
   sized-advertised {n} e =
-      let l : length (subTlv f x) ≡ 6 + length (content (x .setting .desired)) = length-subTlv f x (not-false (x .setting .advertise) t) in
+      let l : length (releaseTlv f max x) ≡ 6 + length (content (x .setting .desired)) = length-releaseTlv f max x (not-false (x .setting .advertise) t) in
       record { is = omega (arith, e .is); small = omega (arith, e .small) }
 
   module _ (out : List ℕ) (i : ℕ) {type : ℕ} (k : type ≡ featureNumber f) where
-    pub sub-tlv-room : i + length (subTlv f x) ≤ length out → Room out i type (content (x .setting .desired))
+    pub sub-tlv-room : i + length (releaseTlv f max x) ≤ length out → Room out i type (content (x .setting .desired))
     sub-tlv-room h =
-        let l : length (subTlv f x) ≡ 6 + length (content (x .setting .desired)) = length-subTlv f x (not-false (x .setting .advertise) t) in
+        let l : length (releaseTlv f max x) ≡ 6 + length (content (x .setting .desired)) = length-releaseTlv f max x (not-false (x .setting .advertise) t) in
         record { room = omega arith; known = feature-small f k }
 
-    pub sub-tlv-put : {bits : ℕ} {a : List ℕ} → bits ≡ flags (x .setting .enable) (x .setting .willing) (x .outcome .error)
-        → a ≡ sets out i (parts type (x .outcome .oper) (x .max) bits (content (x .setting .desired))) → a ≡ sets out i (subTlv f x)
-    unfolding subTlv
+    pub sub-tlv-put : {bits : ℕ} {a : List ℕ} → bits ≡ flags (x .setting .enable) (x .setting .willing) (x .error)
+        → a ≡ sets out i (parts type (x .oper) max bits (content (x .setting .desired))) → a ≡ sets out i (releaseTlv f max x)
+    unfolding releaseTlv
     sub-tlv-put b ea = ea ∙ rw (k, b, not-false (x .setting .advertise) t) refl

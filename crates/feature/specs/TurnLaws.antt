@@ -23,8 +23,8 @@ use Rattle.feature.specs.declared.steps.Turn.{Turn}
 use Rattle.feature.specs.Outcome.{Received, operOf, maxOf, parametersOf, lower, heldPeer, withoutPeer, judged, outcome}
 use Rattle.feature.specs.OutcomeLaws.{decided, outcomeOf}
 use Rattle.feature.specs.RulesLaws.{judged-peer}
-use Rattle.feature.specs.State.{next, flags, subTlv, controlTwice, acknowledged, received, changed, marked}
-use Rattle.feature.specs.StateLaws.{changed-not, changed-hidden, changed-oper, changed-flags, marked-withheld, marked-same, marked-changed}
+use Rattle.feature.specs.State.{next, flags, present, subTlv, controlTwice, acknowledged, received, changed, marked}
+use Rattle.feature.specs.StateLaws.{changed-not, changed-oper, changed-flags, marked-same, marked-changed}
 
 -- ---- the state after a frame
 
@@ -73,10 +73,6 @@ peerParametersAfter c f v held x = if keepsBy c x then x .outcome .peer .paramet
 abbrev pub renewed : State → Turn → Parameters → State
 renewed x t p = record { max = x .max; setting = x .setting; outcome = outcomeOf (t .decision) p; syncd = t .syncd; sequence = t .sequence }
 
--- whether the sub-TLV changed
-unfoldable pub changedBy : State → Turn → Bool
-changedBy x t = x .setting .advertise && not (x .outcome .oper is t .decision .oper && Bool·beq (x .outcome .error) (t .decision .error))
-
 -- ---- step 5 on the small part
 
 -- the error flag shows
@@ -97,43 +93,29 @@ beq-is false true e = e
 beq-is false false e = refl
 
 -- the sub-TLV of an advertised feature changed exactly if its version or its error did
-module _ (f : Feature) (x : State) (o : Outcome) (syncd : Bool) (n : ℕ) where
-  abbrev become : State
-  become = record { max = x .max; setting = x .setting; outcome = o; syncd = syncd; sequence = n }
-
-  changed-become : changed f x become ≡ changedBy x (turnOf become)
-  unfolding changedBy subTlv
-  changed-become = go (x .setting .advertise) (x .outcome .oper is o .oper) (Bool·beq (x .outcome .error) (o .error)) refl refl refl
-    where
-      b : not (Bool·beq (x .setting .advertise) (x .setting .advertise)) ≡ false
-      b = beq-self (x .setting .advertise)
-
-      go : (a e d : Bool) → x .setting .advertise ≡ a → x .outcome .oper is o .oper ≡ e → Bool·beq (x .outcome .error) (o .error) ≡ d
-          → changed f x become ≡ (a && not (e && d))
-      go false e d p q r = sym (changed-hidden f x become b (ap not p))
-      go true true true p q r =
-          sym (changed-not f x become (rw (eqb-true (x .outcome .oper) (o .oper) q, beq-is (x .outcome .error) (o .error) r) refl))
-      go true true false p q r =
-          sym (changed-flags f x become b (ap not p) refl refl (flags-error (x .setting .enable) (x .setting .willing) (x .outcome .error) (o .error) r))
-      go true false d p q r = sym (changed-oper f x become b (ap not p) (eqb-false (x .outcome .oper) (o .oper) q))
-
-module _ (f : Feature) (seq : ℕ) (x : State) (t : not (x .setting .advertise) ≡ false) (o : Outcome) (syncd : Bool) where
+module _ (f : Feature) (x : State) (t : not (x .setting .advertise) ≡ false) (o : Outcome) (syncd : Bool) where
   abbrev come : State
-  come = become f x o syncd (x .sequence)
+  come = record { max = x .max; setting = x .setting; outcome = o; syncd = syncd; sequence = x .sequence }
 
-  told : (b : Bool) → (x .outcome .oper is o .oper && Bool·beq (x .outcome .error) (o .error)) ≡ b → not b ≡ changed f x come
-  unfolding changedBy
-  told b e = sym (changed-become f x o syncd (x .sequence) ∙ (λ i. not-false (x .setting .advertise) t i && not (e i)))
+  changed-come : (e d : Bool) → x .outcome .oper is o .oper ≡ e → Bool·beq (x .outcome .error) (o .error) ≡ d → not (e && d) ≡ changed f x come
+  changed-come true true q r =
+      changed-not f (x .max) (x .max) (present x) (present come) (rw (eqb-true (x .outcome .oper) (o .oper) q, beq-is (x .outcome .error) (o .error) r) refl)
+  changed-come true false q r =
+      changed-flags f (x .max) (x .max) (present x) (present come) (beq-self (x .setting .advertise)) t refl refl
+      (flags-error (x .setting .enable) (x .setting .willing) (x .outcome .error) (o .error) r)
+  changed-come false d q r =
+      changed-oper f (x .max) (x .max) (present x) (present come) (beq-self (x .setting .advertise)) t (eqb-false (x .outcome .oper) (o .oper) q)
 
-  pub weighed-marked : weighed x (decided o) syncd seq ≡ turnOf (marked f seq x come)
+  pub weighed-marked : (seq : ℕ) → weighed x (decided o) syncd seq ≡ turnOf (marked f seq x come)
   unfolding weighed
-  weighed-marked = by (x .outcome .oper is o .oper && Bool·beq (x .outcome .error) (o .error)) refl
+  weighed-marked seq = by (x .outcome .oper is o .oper) (Bool·beq (x .outcome .error) (o .error)) refl refl
     where
-      by : (b : Bool) → (x .outcome .oper is o .oper && Bool·beq (x .outcome .error) (o .error)) ≡ b
-          → (if b then record { decision = decided o; syncd = syncd; sequence = x .sequence } else record { decision = decided o; syncd = false; sequence = next seq })
+      by : (e d : Bool) → x .outcome .oper is o .oper ≡ e → Bool·beq (x .outcome .error) (o .error) ≡ d
+          → (if e && d then record { decision = decided o; syncd = syncd; sequence = x .sequence } else record { decision = decided o; syncd = false; sequence = next seq })
           ≡ turnOf (marked f seq x come)
-      by true e = ap turnOf (marked-same f seq x come t (told true e) refl)
-      by false e = ap turnOf (marked-changed f seq x come t (told false e) refl refl)
+      by true true q r = ap turnOf (marked-same f seq x come refl refl (changed-come true true q r) refl)
+      by true false q r = ap turnOf (marked-changed f seq x come refl refl (changed-come true false q r) refl refl)
+      by false d q r = ap turnOf (marked-changed f seq x come refl refl (changed-come false d q r) refl refl)
 
 module _ (x : State) (d : Decision) (syncd : Bool) (seq : ℕ) where
   module _ {t : Turn} (e : t ≡ record { decision = d; syncd = false; sequence = next seq }) where
@@ -152,27 +134,27 @@ module _ (x : State) (d : Decision) (syncd : Bool) (seq : ℕ) where
 
 -- ---- a law for each way out
 
-withheld-same : (f : Feature) (seq : ℕ) (x y : State) → y .setting .advertise ≡ false → y ≡ marked f seq x y
-unfolding marked
-withheld-same f seq x y e = simp e
+-- a state whose sub-TLV is as before is not marked
+unmarked : (f : Feature) (seq : ℕ) (x y : State) → subTlv f x ≡ subTlv f y → y ≡ marked f seq x y
+unmarked f seq x y e = marked-same f seq x y refl refl (changed-not f (x .max) (y .max) (present x) (present y) e) refl
 
 module _ (f : Feature) (seq : ℕ) (x : State) {t : Turn} where
   pub twice-withheld : not (x .setting .advertise) ≡ true → t ≡ keptAt x (x .syncd) → t ≡ turnOf (marked f seq x (controlTwice x))
   unfolding controlTwice
-  twice-withheld a e = let n : x .setting .advertise ≡ false = not-true (x .setting .advertise) a in e ∙ simp n (ap turnOf (withheld-same f seq x x n))
+  twice-withheld a e = let n : x .setting .advertise ≡ false = not-true (x .setting .advertise) a in e ∙ simp n (ap turnOf (unmarked f seq x x refl))
 
   pub twice-advertised : {d : Decision} → not (x .setting .advertise) ≡ false → d ≡ decided (withoutPeer ControlTwice (x .outcome .oper) true)
       → t ≡ weighed x d (x .syncd) seq → t ≡ turnOf (marked f seq x (controlTwice x))
   unfolding controlTwice
   twice-advertised a ed e =
-      e ∙ rw ed (simp (not-false (x .setting .advertise) a) (weighed-marked f seq x a (withoutPeer ControlTwice (x .outcome .oper) true) (x .syncd)))
+      e ∙ rw ed (simp (not-false (x .setting .advertise) a) (weighed-marked f x a (withoutPeer ControlTwice (x .outcome .oper) true) (x .syncd) seq))
 
   module _ (r : Received) (rcvd : ℕ) {s : Bool} (es : s ≡ (x .syncd || (x .sequence is rcvd && x .sequence is seq))) where
     pub receive-withheld : not (x .setting .advertise) ≡ true → t ≡ keptAt x s → t ≡ turnOf (marked f seq x (received f r (acknowledged rcvd seq x)))
     unfolding received acknowledged
     receive-withheld a e =
         let n : x .setting .advertise ≡ false = not-true (x .setting .advertise) a in
-        e ∙ rw es (simp n (ap turnOf (withheld-same f seq x (acknowledged rcvd seq x) n)))
+        e ∙ rw es (simp n (ap turnOf (unmarked f seq x (acknowledged rcvd seq x) refl)))
 
     pub receive-advertised : {d : Decision} → not (x .setting .advertise) ≡ false → d ≡ decided (outcome f (x .max) (x .setting) (x .outcome .oper) r)
         → t ≡ weighed x d s seq → t ≡ turnOf (marked f seq x (received f r (acknowledged rcvd seq x)))
@@ -180,22 +162,14 @@ module _ (f : Feature) (seq : ℕ) (x : State) {t : Turn} where
     receive-advertised a ed e =
         e ∙ rw (ed, es)
         (simp (not-false (x .setting .advertise) a)
-        (weighed-marked f seq x a (outcome f (x .max) (x .setting) (x .outcome .oper) r) (x .syncd || (x .sequence is rcvd && x .sequence is seq))))
-
--- a state that stays is not marked
-unmarked : (f : Feature) (seq : ℕ) (x : State) → x ≡ marked f seq x x
-unmarked f seq x = by (not (x .setting .advertise)) refl
-  where
-    by : (b : Bool) → not (x .setting .advertise) ≡ b → x ≡ marked f seq x x
-    by true e = marked-withheld f seq x x e
-    by false e = marked-same f seq x x e (changed-not f x x refl) refl
+        (weighed-marked f x a (outcome f (x .max) (x .setting) (x .outcome .oper) r) (x .syncd || (x .sequence is rcvd && x .sequence is seq)) seq))
 
 module _ (f : Feature) (r : Received) (rcvd seq : ℕ) (x : State) (c : Course) {t : Turn} where
   pub turn-twice : c ≡ Twice → t ≡ turnOf (marked f seq x (controlTwice x)) → t ≡ turnOf (after c f r rcvd seq x)
   turn-twice ec e = rw ec e
 
   pub turn-other : c ≡ OtherVersion → t ≡ keptAt x (x .syncd) → t ≡ turnOf (after c f r rcvd seq x)
-  turn-other ec e = rw ec (e ∙ ap turnOf (unmarked f seq x))
+  turn-other ec e = rw ec (e ∙ ap turnOf (unmarked f seq x x refl))
 
   pub turn-exchange : c ≡ Exchange → t ≡ turnOf (marked f seq x (received f r (acknowledged rcvd seq x))) → t ≡ turnOf (after c f r rcvd seq x)
   turn-exchange ec e = rw ec e
@@ -274,7 +248,7 @@ either-same x false y z h k = k
 
 marked-same-state : (f : Feature) (seq : ℕ) (x y : State) → Same x y → Same x (marked f seq x y)
 unfolding marked
-marked-same-state f seq x y h = either-same x (y .setting .advertise && changed f x y) _ y (record { max = h .max; setting = h .setting }) h
+marked-same-state f seq x y h = either-same x (changed f x y) _ y (record { max = h .max; setting = h .setting }) h
 
 stepped-same : (c : Course) (f : Feature) (r : Received) (rcvd seq : ℕ) (x : State) → Same x (stepped c f r rcvd seq x)
 unfolding controlTwice received acknowledged
@@ -286,15 +260,9 @@ stepped-same Exchange f r rcvd seq x =
 pub after-same : (c : Course) (f : Feature) (r : Received) (rcvd seq : ℕ) (x : State) → Same x (after c f r rcvd seq x)
 after-same c f r rcvd seq x = marked-same-state f seq x (stepped c f r rcvd seq x) (stepped-same c f r rcvd seq x)
 
-pub changed-by : (f : Feature) (x y : State) → Same x y → changed f x y ≡ changedBy x (turnOf y)
-changed-by f x y s =
-    let e : y ≡ record { max = x .max; setting = x .setting; outcome = y .outcome; syncd = y .syncd; sequence = y .sequence } =
-    λ i. record { max = s .max i; setting = s .setting i; outcome = y .outcome; syncd = y .syncd; sequence = y .sequence } in
-    ap (changed f x) e ∙ changed-become f x (y .outcome) (y .syncd) (y .sequence)
-
 marked-outcome : (f : Feature) (seq : ℕ) (x y : State) → marked f seq x y .outcome ≡ y .outcome
 unfolding marked
-marked-outcome f seq x y = by (y .setting .advertise && changed f x y)
+marked-outcome f seq x y = by (changed f x y)
   where
     by : (b : Bool) → (if b then record { max = y .max; setting = y .setting; outcome = y .outcome; syncd = false; sequence = next seq } else y) .outcome ≡ y .outcome
     by true = refl

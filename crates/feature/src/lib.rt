@@ -86,6 +86,13 @@ pub struct State {
     pub sequence: u32,
 }
 
+// What a sub-TLV is written from, beside the feature's Max, which is fixed: none is written where the setting does not advertise.
+pub struct Release {
+    pub setting: Setting,
+    pub oper: u8,
+    pub error: bool,
+}
+
 // A number for each reason; the numbers are ours.
 pub fn reason_number(r: Reason) -> u8
     ensures { λ n. ⌜ n ≡ reasonNumber r ⌝ }

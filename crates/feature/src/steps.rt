@@ -11,12 +11,13 @@ ghost use Rattle.parameters.specs.Parameters.{content};
 ghost use Rattle.feature.specs.Outcome.{judged};
 ghost use Rattle.feature.specs.StateLaws.{Room, Sized, parts};
 ghost use Rattle.feature.specs.TurnLaws.{after, decidedAt, peerParametersAfter, keepsBy, keptAt, renewed, turnOf, weighed};
-ghost use Rattle.feature.specs.State.{freshAt, stopped, controlTwice, acknowledged, received, changed, marked, next, flags, subTlv, settingOf, sameSetting, judgedAgain, reset};
+ghost use Rattle.feature.specs.State.{freshAt, stopped, controlTwice, acknowledged, received, differing, marked, next, flags, present, releaseTlv, settingOf, sameSetting, judgedAgain, reset};
 use crate::Decision;
 use crate::Flags;
 use crate::Outcome;
 use crate::Peer;
 use crate::Reason;
+use crate::Release;
 use crate::Setting;
 use crate::State;
 use crate::Switches;
@@ -244,15 +245,27 @@ fn bit(b: bool, v: u8) -> u8
     if b { v } else { 0 }
 }
 
+// What a release would write at present (02, E5).
+pub fn present(x: State) -> Release
+    ensures { λ r. ⌜ r ≡ present x ⌝ }
+{
+    let o = x.outcome;
+    let s = x.setting;
+    Release {
+        setting: s,
+        oper: o.oper,
+        error: o.error,
+    }
+}
+
 // The flags octet of the sub-TLV.
-fn flags_of(x: State) -> u8
-    ensures { λ r. ⌜ r ≡ flags (x .setting .enable) (x .setting .willing) (x .outcome .error) ⌝ }
+fn flags_of(x: Release) -> u8
+    ensures { λ r. ⌜ r ≡ flags (x .setting .enable) (x .setting .willing) (x .error) ⌝ }
 {
     let s = x.setting;
-    let o = x.outcome;
     let enable = bit(s.enable, 128);
     let willing = bit(s.willing, 64);
-    let error = bit(o.error, 32);
+    let error = bit(x.error, 32);
     enable + willing + error
 }
 
@@ -266,27 +279,25 @@ fn same_content(a: Parameters, b: Parameters) -> bool
     )
 }
 
-// Whether the written sub-TLV changed from one state to another.
-pub fn differs(f: Feature, before: State, after: State) -> bool
-    ensures { λ r. ⌜ r ≡ changed f before after ⌝ }
+// Whether two releases write different sub-TLVs, each of a feature with its Max.
+pub fn differs(f: Feature, m: u8, x: Release, n: u8, y: Release) -> bool
+    ensures { λ r. ⌜ r ≡ differing f m x n y ⌝ }
 {
-    let s = before.setting;
-    let t = after.setting;
+    let s = x.setting;
+    let t = y.setting;
     if s.advertise != t.advertise {
         return true;
     }
     if !s.advertise {
         return false;
     }
-    let o = before.outcome;
-    let p = after.outcome;
-    if o.oper != p.oper {
+    if x.oper != y.oper {
         return true;
     }
-    if before.max != after.max {
+    if m != n {
         return true;
     }
-    if flags_of(before) != flags_of(after) {
+    if flags_of(x) != flags_of(y) {
         return true;
     }
     let a = s.desired;
@@ -294,15 +305,13 @@ pub fn differs(f: Feature, before: State, after: State) -> bool
     !same_content(a, b)
 }
 
-// Step 5 of handling: an advertised feature whose sub-TLV changed waits for a new acknowledgement.
+// Step 5 of handling: a feature whose present sub-TLV changed waits for a new acknowledgement.
 pub fn mark(f: Feature, seq: u32, before: State, after: State) -> State
     ensures { λ r. ⌜ r ≡ marked f seq before after ⌝ }
 {
-    let t = after.setting;
-    if !t.advertise {
-        return after;
-    }
-    if !differs(f, before, after) {
+    let x = present(before);
+    let y = present(after);
+    if !differs(f, before.max, x, after.max, y) {
         return after;
     }
     let up = std::num::wrapping_add_u32(seq, 1);
@@ -398,8 +407,8 @@ pub fn set_anew(f: Feature, seq: u32, s: Setting, x: State) -> State
 }
 
 // How many octets the sub-TLV has: none where the feature is not advertised.
-pub fn sub_tlv_length(f: Feature, x: State) -> usize
-    ensures { λ r. ⌜ Sized f x r ⌝ }
+pub fn sub_tlv_length(f: Feature, max: u8, x: Release) -> usize
+    ensures { λ r. ⌜ Sized f max x r ⌝ }
 {
     let s = x.setting;
     if !s.advertise {
@@ -433,17 +442,16 @@ fn put_header(out: &mut [u8], at: usize, kind: u8, size: u8, oper: u8, max: u8, 
 }
 
 // Writes the sub-TLV at `at`. The caller has refused a short output before, by the frame's length; hence the `requires`.
-pub fn put_sub_tlv(out: &mut [u8], at: usize, f: Feature, x: State)
-    requires { ⌜ at + length (subTlv f x) ≤ length (now out) ⌝ }
-    ensures { λ _. ⌜ now (out .exit) ≡ sets (now (out .entry)) at (subTlv f x) ⌝ }
+pub fn put_sub_tlv(out: &mut [u8], at: usize, f: Feature, max: u8, x: Release)
+    requires { ⌜ at + length (releaseTlv f max x) ≤ length (now out) ⌝ }
+    ensures { λ _. ⌜ now (out .exit) ≡ sets (now (out .entry)) at (releaseTlv f max x) ⌝ }
 {
     let s = x.setting;
     if !s.advertise {
         return;
     }
-    let o = x.outcome;
     let p = s.desired;
     let kind = parameters::feature_number(f);
     let bits = flags_of(x);
-    put_parts(out, at, kind, o.oper, x.max, bits, p);
+    put_parts(out, at, kind, x.oper, max, bits, p);
 }

@@ -4,21 +4,21 @@ use native.Mathlib.Nat.{le-refl}
 use mathlib.Core.Path.{_≡_, refl, ap, _∙_}
 use mathlib.Core.Bool.{Bool, true, false, _&&_, false≢true}
 use lib.Dec.{lit<}
-use Rattle.octets.specs.Words.{if_then_else_, _is_}
+use Rattle.octets.specs.Words.{if_then_else_}
 use Rattle.parameters.specs.declared.Feature.{Feature}
 use Rattle.parameters.specs.declared.Feature.the-variants.{Groups, Flow, Applications}
 use Rattle.feature.specs.declared.Reason.the-variants.{NoPeerYet, NotAdvertised}
 use Rattle.feature.specs.declared.Setting.{Setting}
 use Rattle.feature.specs.declared.State.{State}
 use Rattle.feature.specs.Outcome.{noPeer, withoutPeer}
-use Rattle.feature.specs.State.{next, freshAt, fresh, stopped}
+use Rattle.feature.specs.State.{next, freshAt, fresh, stopped, present}
 use Rattle.port.specs.declared.Control.{Control}
 use Rattle.port.specs.declared.Port.{Port}
-use Rattle.port.specs.Parts.{featureOf, withControl, withFeatures, some, running}
-use Rattle.port.specs.PortEvents.{withSeq, unsynced, sent, freshControl, freshParts, freshPort}
-use Rattle.port.specs.Sound.{SoundSetting, SoundState, NoApplications, SoundPort}
+use Rattle.port.specs.Parts.{featureOf, withControl, withFeatures, presents, release, running}
+use Rattle.events.specs.PortEvents.{withSeq, raisesSeqNo, sent, freshControl, freshParts, freshPort}
+use Rattle.port.specs.Sound.{SoundSetting, SoundState, SoundRelease, NoApplications, SoundPort}
 use Rattle.tlv.specs.Revisions.{hasApplications}
-use Rattle.handling.proofs.Soundness.{port-sound, sent-sound}
+use Rattle.handling.proofs.Soundness.{port-sound, present-sound, sent-sound}
 
 -- ---- one feature
 
@@ -94,13 +94,13 @@ alike-trans p q r h k =
     }
 
 -- the send rule keeps them
-of-control : (p : Port) (c : Control) (f : Feature) → featureOf (withControl p c) f ≡ featureOf p f
-of-control p c Groups = refl
-of-control p c Flow = refl
-of-control p c Applications = refl
+of-release : (p : Port) (c : Control) (f : Feature) → featureOf (release (withControl p c)) f ≡ featureOf p f
+of-release p c Groups = refl
+of-release p c Flow = refl
+of-release p c Applications = refl
 
 module _ (p : Port) where
-  counted-alike : (b : Bool) → Alike p (if b then withControl p (withSeq (p .control) (next (p .control .seq))) else p)
+  counted-alike : (b : Bool) → Alike p (if b then release (withControl p (withSeq (p .control) (next (p .control .seq)))) else p)
   counted-alike false = record { revision = refl; admin = refl; receive = refl; transmit = refl; several = refl; control = refl; max = λ f. refl; setting = λ f. refl }
   counted-alike true =
       let c : Control = withSeq (p .control) (next (p .control .seq)) in
@@ -111,13 +111,13 @@ module _ (p : Port) where
         transmit = refl;
         several = refl;
         control = refl;
-        max = λ f. ap (λ (x : State). x .max) (of-control p c f);
-        setting = λ f. ap (λ (x : State). x .setting) (of-control p c f);
+        max = λ f. ap (λ (x : State). x .max) (of-release p c f);
+        setting = λ f. ap (λ (x : State). x .setting) (of-release p c f);
       }
 
   pub sent-alike : Alike p (sent p)
   unfolding sent
-  sent-alike = counted-alike (some (λ f. unsynced (featureOf p f)) && p .control .rcvd is p .control .seq)
+  sent-alike = counted-alike (raisesSeqNo p)
 
 pub runs-alike : (p q : Port) → Alike p q → running q ≡ running p
 runs-alike p q h = λ i. h .admin i && h .receive i && h .transmit i
@@ -166,6 +166,9 @@ module _ (p : Port) where
     feature-sound : (f : Feature) → SoundState f (fresh (featureOf p f .max) (featureOf p f .setting))
     feature-sound f = fresh-sound 1 (featureOf p f .max) (featureOf p f .setting) f (h .features f .max) (lit< tt) (h .features f .setting)
 
+    release-sound : (f : Feature) → let x : State = fresh (featureOf p f .max) (featureOf p f .setting) in SoundRelease f (x .max) (present x)
+    release-sound f = present-sound f _ (feature-sound f)
+
     fresh-none : hasApplications (p .revision) ≡ false → NoApplications (fresh (p .applications .max) (p .applications .setting))
     fresh-none e =
         record {
@@ -177,7 +180,7 @@ module _ (p : Port) where
     parts-sound =
         port-sound (freshParts p)
         (record { max = h .control .max; oper = le-refl (p .control .max); seq = lit< tt; ack = lit< tt; rcvd = lit< tt })
-        (feature-sound Groups) (feature-sound Flow) (feature-sound Applications) fresh-none
+        (feature-sound Groups) (feature-sound Flow) (feature-sound Applications) (release-sound Groups) (release-sound Flow) (release-sound Applications) fresh-none (λ e. fresh-none e .setting)
 
     pub fresh-kept : SoundPort (freshPort p)
     unfolding freshPort
@@ -187,7 +190,8 @@ module _ (p : Port) where
         by true = sent-sound (freshParts p) parts-sound
         by false =
             port-sound still (parts-sound .control) (stopped-sound Groups _ (feature-sound Groups)) (stopped-sound Flow _ (feature-sound Flow))
-            (stopped-sound Applications _ (feature-sound Applications)) (λ e. record { setting = fresh-none e .setting; max = fresh-none e .max })
+            (stopped-sound Applications _ (feature-sound Applications)) (release-sound Groups) (release-sound Flow) (release-sound Applications) (λ e. record { setting = fresh-none e .setting; max = fresh-none e .max })
+            (λ e. fresh-none e .setting)
 
 -- it depends on versions, settings and flags alone
 pub fresh-same : (p q : Port) → Alike p q → freshPort q ≡ freshPort p
@@ -195,6 +199,9 @@ unfolding freshPort
 fresh-same p q h =
     λ i. if runs-alike p q h i then sent (parts i) else withFeatures (parts i) (λ f. stopped (featureOf (parts i) f))
   where
+    feature : (f : Feature) → fresh (featureOf q f .max) (featureOf q f .setting) ≡ fresh (featureOf p f .max) (featureOf p f .setting)
+    feature f = λ i. fresh (h .max f i) (h .setting f i)
+
     parts : freshParts q ≡ freshParts p
     parts =
         λ i. record {
@@ -204,9 +211,10 @@ fresh-same p q h =
           transmit = h .transmit i;
           several = h .several i;
           control = freshControl (h .control i);
-          groups = fresh (h .max Groups i) (h .setting Groups i);
-          flow = fresh (h .max Flow i) (h .setting Flow i);
-          applications = fresh (h .max Applications i) (h .setting Applications i);
+          groups = feature Groups i;
+          flow = feature Flow i;
+          applications = feature Applications i;
+          released = presents (feature Groups i) (feature Flow i) (feature Applications i);
         }
 
 pub fresh-again : (p : Port) → freshPort (freshPort p) ≡ freshPort p

@@ -2,4 +2,5 @@
 pub mod Tests
 pub mod Soundness
 pub mod Fresh
+pub mod Waiting
 pub mod Standing

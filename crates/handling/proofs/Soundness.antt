@@ -4,7 +4,7 @@ use native.Mathlib.Omega.{arith}
 use native.Mathlib.Nat.{min-le-left, le-refl, mod-lt}
 use mathlib.Core.Path.{_≡_, refl, sym, ap, _∙_}
 use mathlib.Core.Bool.{Bool, true, false, not, _&&_, _||_, Bool·beq, false≢true}
-use mathlib.Core.List.{List}
+use mathlib.Core.List.{List, []}
 use lib.ListN.{length, take, drop, length-take, List·getD-eq-default}
 use lib.Seq.{getD-take, getD-drop}
 use lib.Dec.{lit<}
@@ -28,12 +28,13 @@ use Rattle.feature.specs.declared.Peer.{Peer}
 use Rattle.feature.specs.declared.Outcome.{Outcome}
 use Rattle.feature.specs.declared.State.{State}
 use Rattle.feature.specs.Outcome.{Received, operOf, maxOf, parametersOf, configuration, lower, heldPeer, withoutPeer, judged, outcome}
-use Rattle.feature.specs.State.{next, withOutcome, controlTwice, acknowledged, received, changed, marked}
+use Rattle.feature.specs.declared.Release.{Release}
+use Rattle.feature.specs.State.{next, withOutcome, present, controlTwice, acknowledged, received, changed, marked, settingOf}
 use Rattle.port.specs.declared.Port.{Port}
-use Rattle.port.specs.Parts.{featureOf, withControl, some}
-use Rattle.port.specs.PortEvents.{withSeq, unsynced, sent, step5, completed}
+use Rattle.port.specs.Parts.{switchedOff, featureOf, releasedOf, withControl, release}
+use Rattle.events.specs.PortEvents.{withSeq, raisesSeqNo, sent, step5, completed}
 use Rattle.handling.specs.Handling.{Message, message, twice, met, exchanged, once, steps1to4}
-use Rattle.port.specs.Sound.{SoundParameters, SoundSetting, SoundPeer, adoptsBy, SoundState, SoundControl, NoApplications, SoundPort}
+use Rattle.port.specs.Sound.{SoundParameters, SoundSetting, SoundPeer, adoptsBy, SoundState, SoundControl, SoundRelease, NoApplications, SoundPort}
 use Rattle.feature.specs.RulesLaws.{judgedBy, judged-by, judged-oper, judged-peer}
 
 -- ---- outcomes
@@ -162,7 +163,7 @@ module _ (f : Feature) where
   marked-sound : (seq : ℕ) (x y : State) → SoundState f y → SoundState f (marked f seq x y)
   unfolding marked
   marked-sound seq x y h =
-      either-sound (y .setting .advertise && changed f x y) _ y
+      either-sound (changed f x y) _ y
       (record { max = h .max; oper = h .oper; sequence = next-small seq; setting = h .setting; peer = h .peer; adopts = h .adopts; withheld = h .withheld })
       h
 
@@ -182,7 +183,7 @@ twice-none x h = either-none (x .setting .advertise) _ x (record { setting = h .
 
 marked-none : (seq : ℕ) (x y : State) → NoApplications y → NoApplications (marked Applications seq x y)
 unfolding marked
-marked-none seq x y h = either-none (y .setting .advertise && changed Applications x y) _ y (record { setting = h .setting; max = h .max }) h
+marked-none seq x y h = either-none (changed Applications x y) _ y (record { setting = h .setting; max = h .max }) h
 
 -- OperCfg of a sound state is sound
 pub configuration-sound : (f : Feature) (x : State) → SoundState f x → SoundParameters f (configuration (x .setting) (x .outcome))
@@ -195,24 +196,57 @@ configuration-sound f x h = by (x .outcome .adopts) refl
 -- ---- the port
 
 pub port-sound : (p : Port) → SoundControl (p .control) → SoundState Groups (p .groups) → SoundState Flow (p .flow) →
-    SoundState Applications (p .applications) → (hasApplications (p .revision) ≡ false → NoApplications (p .applications)) → SoundPort p
-port-sound p c g w a r = record { control = c; features = of; revision = r }
+    SoundState Applications (p .applications) → SoundRelease Groups (p .groups .max) (p .released .groups) → SoundRelease Flow (p .flow .max) (p .released .flow) →
+    SoundRelease Applications (p .applications .max) (p .released .applications) → (hasApplications (p .revision) ≡ false → NoApplications (p .applications)) →
+    (hasApplications (p .revision) ≡ false → p .released .applications .setting ≡ settingOf Applications switchedOff []) → SoundPort p
+port-sound p c g w a rg rw ra r n = record { control = c; features = of; released = released; revision = r; withheld = n }
   where
     of : (f : Feature) → SoundState f (featureOf p f)
     of Groups = g
     of Flow = w
     of Applications = a
 
-counted-sound : (b : Bool) (p : Port) → SoundPort p → SoundPort (if b then withControl p (withSeq (p .control) (next (p .control .seq))) else p)
+    released : (f : Feature) → SoundRelease f (featureOf p f .max) (releasedOf p f)
+    released Groups = rg
+    released Flow = rw
+    released Applications = ra
+
+-- what a sound state would release
+pub present-sound : (f : Feature) (x : State) → SoundState f x → SoundRelease f (x .max) (present x)
+present-sound f x h = record { oper = h .oper; setting = h .setting }
+
+-- what was released stays sound as long as Max does
+moved : (f : Feature) (r : Release) {m n : ℕ} → n ≡ m → SoundRelease f m r → SoundRelease f n r
+moved f r e h = rw e h
+
+either-max : (b : Bool) (x y : State) {n : ℕ} → x .max ≡ n → y .max ≡ n → (if b then x else y) .max ≡ n
+either-max true x y e d = e
+either-max false x y e d = d
+
+pub marked-max : (f : Feature) (seq : ℕ) (x y : State) → marked f seq x y .max ≡ y .max
+unfolding marked
+marked-max f seq x y = either-max (changed f x y) _ y refl refl
+
+pub twice-max : (x : State) → controlTwice x .max ≡ x .max
+unfolding controlTwice
+twice-max x = either-max (x .setting .advertise) _ x refl refl
+
+pub received-max : (f : Feature) (r : Received) (rcvd seq : ℕ) (x : State) → received f r (acknowledged rcvd seq x) .max ≡ x .max
+unfolding received acknowledged
+received-max f r rcvd seq x = either-max (x .setting .advertise) _ _ refl refl
+
+counted-sound : (b : Bool) (p : Port) → SoundPort p → SoundPort (if b then release (withControl p (withSeq (p .control) (next (p .control .seq)))) else p)
 counted-sound true p h =
     let c = h .control in
     port-sound _ (record { max = c .max; oper = c .oper; seq = next-small (p .control .seq); ack = c .ack; rcvd = c .rcvd })
-    (h .features Groups) (h .features Flow) (h .features Applications) (h .revision)
+    (h .features Groups) (h .features Flow) (h .features Applications)
+    (present-sound Groups (p .groups) (h .features Groups)) (present-sound Flow (p .flow) (h .features Flow)) (present-sound Applications (p .applications) (h .features Applications))
+    (h .revision) (λ e. h .revision e .setting)
 counted-sound false p h = h
 
 pub sent-sound : (p : Port) → SoundPort p → SoundPort (sent p)
 unfolding sent
-sent-sound p h = counted-sound (some (λ f. unsynced (featureOf p f)) && p .control .rcvd is p .control .seq) p h
+sent-sound p h = counted-sound (raisesSeqNo p) p h
 
 -- step 5 and the send rule, after a port that is sound
 pub completed-sound : (before after : Port) → SoundPort after → SoundPort (completed before after)
@@ -222,7 +256,10 @@ completed-sound before after h =
     (marked-sound Groups (after .control .seq) (before .groups) (after .groups) (h .features Groups))
     (marked-sound Flow (after .control .seq) (before .flow) (after .flow) (h .features Flow))
     (marked-sound Applications (after .control .seq) (before .applications) (after .applications) (h .features Applications))
-    (λ e. marked-none (after .control .seq) (before .applications) (after .applications) (h .revision e)))
+    (moved Groups _ (marked-max Groups (after .control .seq) (before .groups) (after .groups)) (h .released Groups))
+    (moved Flow _ (marked-max Flow (after .control .seq) (before .flow) (after .flow)) (h .released Flow))
+    (moved Applications _ (marked-max Applications (after .control .seq) (before .applications) (after .applications)) (h .released Applications))
+    (λ e. marked-none (after .control .seq) (before .applications) (after .applications) (h .revision e)) (h .withheld))
 
 module _ (p : Port) (h : SoundPort p) where
   -- two controls
@@ -234,7 +271,9 @@ module _ (p : Port) (h : SoundPort p) where
       (twice-sound Groups (p .groups) (h .features Groups))
       (twice-sound Flow (p .flow) (h .features Flow))
       (twice-sound Applications (p .applications) (h .features Applications))
-      (λ e. twice-none (p .applications) (h .revision e))
+      (moved Groups _ (twice-max (p .groups)) (h .released Groups)) (moved Flow _ (twice-max (p .flow)) (h .released Flow))
+      (moved Applications _ (twice-max (p .applications)) (h .released Applications))
+      (λ e. twice-none (p .applications) (h .revision e)) (h .withheld)
 
   -- one readable control
   module _ (m : Message) (seq : m .seq < 2 ^ 32) (ack : m .ack < 2 ^ 32) where
@@ -244,6 +283,9 @@ module _ (p : Port) (h : SoundPort p) where
     feature-kept : (f : Feature) → SoundState f (received f (m .has f) (acknowledged (m .ack) (p .control .seq) (featureOf p f)))
     feature-kept f = received-sound f (m .has f) _ (acknowledged-sound f (m .ack) (p .control .seq) (featureOf p f) (h .features f))
 
+    release-kept : (f : Feature) → SoundRelease f (received f (m .has f) (acknowledged (m .ack) (p .control .seq) (featureOf p f)) .max) (releasedOf p f)
+    release-kept f = moved f _ (received-max f (m .has f) (m .ack) (p .control .seq) (featureOf p f)) (h .released f)
+
     tested-kept : (b : Bool) → SoundPort (if b then exchanged low m p else withControl p (met low (p .control)))
     unfolding exchanged
     tested-kept true =
@@ -251,12 +293,13 @@ module _ (p : Port) (h : SoundPort p) where
         port-sound (exchanged low m p)
         (record { max = c .max; oper = min-le-left (p .control .max) (m .max); seq = c .seq; ack = seq; rcvd = ack })
         (feature-kept Groups) (feature-kept Flow) (feature-kept Applications)
-        (λ e. received-none (m .has Applications) (m .ack) (p .control .seq) (p .applications) (h .revision e))
+        (release-kept Groups) (release-kept Flow) (release-kept Applications)
+        (λ e. received-none (m .has Applications) (m .ack) (p .control .seq) (p .applications) (h .revision e)) (h .withheld)
     tested-kept false =
         let c = h .control in
         port-sound (withControl p (met low (p .control)))
         (record { max = c .max; oper = min-le-left (p .control .max) (m .max); seq = c .seq; ack = c .ack; rcvd = c .rcvd })
-        (h .features Groups) (h .features Flow) (h .features Applications) (h .revision)
+        (h .features Groups) (h .features Flow) (h .features Applications) (h .released Groups) (h .released Flow) (h .released Applications) (h .revision) (h .withheld)
 
     pub once-kept : SoundPort (once m p)
     unfolding once

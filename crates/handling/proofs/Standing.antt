@@ -31,23 +31,25 @@ use Rattle.port.specs.declared.Port.{Port}
 use Rattle.port.specs.declared.Raised.{Raised}
 use Rattle.port.specs.declared.Raised.the-variants as raised
 use Rattle.port.specs.declared.Versions.{Versions}
-use Rattle.port.specs.Parts.{featureOf, maxOf, withControl, withFeatures, flagOf, withFlag, running}
-use Rattle.port.specs.PortEvents.{sent, freshControl, freshParts, freshPort, event, unchanged, refused, started, createdPort, settingsValid, restarts, flagNotice, flagSet, flagged, peerGone, step5, completed, withFeature, withSetting, settingChanged, setTo, changedFeature, changedApplications, changedSetting, switchedOff, blankParameters, blankState, blankPort}
+use Rattle.port.specs.Parts.{switchedOff, featureOf, maxOf, withControl, withFeatures, presents, flagOf, withFlag, running}
+use Rattle.events.specs.PortEvents.{sent, freshControl, freshParts, freshPort, event, unchanged, refused, started, createdPort, settingsValid, restarts, flagNotice, flagSet, flagged, peerGone, step5, completed, withFeature, withSetting, settingChanged, setTo, changedFeature, changedApplications, changedSetting, blankParameters, blankState, blankPort}
 use Rattle.handling.specs.Handling.{Message, message, twice, met, exchanged, once, steps1to4, frameEvent, accepted, breaks, withBroken, rejected, given, handled}
-use Rattle.port.specs.Sound.{SoundSetting, SoundState, SoundPort}
+use Rattle.port.specs.Sound.{SoundSetting, SoundState, SoundPort, InStep}
 use Rattle.handling.proofs.Tests.{beq-not, each-true}
-use Rattle.handling.proofs.Soundness.{Octets, sound-stored, adopts-none, judged-sound, next-small, port-sound, sent-sound, completed-sound, steps-sound}
+use Rattle.handling.proofs.Soundness.{Octets, sound-stored, adopts-none, judged-sound, next-small, port-sound, present-sound, sent-sound, completed-sound, steps-sound}
+use Rattle.handling.proofs.Waiting.{AllStepped, AllReady, in-step, stepped, fresh-ready, fresh-stepped, sent-in-step, fresh-in-step, steps-in-step, set-in-step}
 use Rattle.handling.proofs.Fresh.{fresh-max, fresh-setting, state-again, fresh-sound, sent-alike, runs-alike, fresh-kept, fresh-same, fresh-again}
 
 pub record Standing (p : Port) : Type 0 where
   pub sound : SoundPort p
+  pub steps : InStep p
   pub stopped : running p ≡ false → freshPort p ≡ p
 
-running-stands : (p : Port) → SoundPort p → running p ≡ true → Standing p
-running-stands p h r = record { sound = h; stopped = λ e. absurd (false≢true (sym e ∙ r)) }
+running-stands : (p : Port) → SoundPort p → InStep p → running p ≡ true → Standing p
+running-stands p h k r = record { sound = h; steps = k; stopped = λ e. absurd (false≢true (sym e ∙ r)) }
 
 fresh-stands : (p : Port) → SoundPort p → Standing (freshPort p)
-fresh-stands p h = record { sound = fresh-kept p h; stopped = λ e. fresh-again p }
+fresh-stands p h = record { sound = fresh-kept p h; steps = fresh-in-step p; stopped = λ e. fresh-again p }
 
 completed-runs : (before after : Port) → running (completed before after) ≡ running after
 completed-runs before after = runs-alike (step5 before after) (completed before after) (sent-alike (step5 before after))
@@ -94,7 +96,25 @@ unfolding rejected
 rejected-sound why place p h =
     let c = h .control in
     port-sound (withBroken p (breaks why)) (record { max = c .max; oper = c .oper; seq = c .seq; ack = c .ack; rcvd = c .rcvd })
-    (h .features Groups) (h .features Flow) (h .features Applications) (h .revision)
+    (h .features Groups) (h .features Flow) (h .features Applications) (h .released Groups) (h .released Flow) (h .released Applications) (h .revision) (h .withheld)
+
+-- nor does it change what is released
+pub rejected-in-step : (why : Refusal) (place : ℕ) (p : Port) → InStep p → InStep (rejected why place p .port)
+unfolding rejected
+rejected-in-step why place p h = in-step (withBroken p (breaks why)) steps done
+  where
+    k : AllStepped p
+    k = stepped p h
+
+    steps : AllStepped (withBroken p (breaks why))
+    steps Groups = record { number = k Groups .number; synced = k Groups .synced; asked = k Groups .asked }
+    steps Flow = record { number = k Flow .number; synced = k Flow .synced; asked = k Flow .asked }
+    steps Applications = record { number = k Applications .number; synced = k Applications .synced; asked = k Applications .asked }
+
+    done : running p ≡ true → p .control .rcvd ≡ p .control .seq → (f : Feature) → featureOf (withBroken p (breaks why)) f .syncd ≡ true
+    done r e Groups = h .done r e Groups
+    done r e Flow = h .done r e Flow
+    done r e Applications = h .done r e Applications
 
 stopped-unmarked : (p : Port) → Standing p → running p ≡ false → rejected NotRunning 0 p .port ≡ p
 unfolding rejected breaks refusalNumber
@@ -107,20 +127,20 @@ handled-stands p o k h = by (running p) (p .several) (readFor (p .revision) o) r
     by : (a b : Bool) (x : Reading) → running p ≡ a
         → Standing ((if not a then rejected NotRunning 0 p else if b then rejected SeveralNeighbours 0 p else given o x p) .port)
     by false b x r = rw (stopped-unmarked p h r) h
-    by true true x r = running-stands _ (rejected-sound SeveralNeighbours 0 p (h .sound)) (rejected-runs SeveralNeighbours 0 p ∙ r)
-    by true false (Refused why place) r = running-stands _ (rejected-sound why place p (h .sound)) (rejected-runs why place p ∙ r)
+    by true true x r = running-stands _ (rejected-sound SeveralNeighbours 0 p (h .sound)) (rejected-in-step SeveralNeighbours 0 p (h .steps)) (rejected-runs SeveralNeighbours 0 p ∙ r)
+    by true false (Refused why place) r = running-stands _ (rejected-sound why place p (h .sound)) (rejected-in-step why place p (h .steps)) (rejected-runs why place p ∙ r)
     by true false (Accepted c) r =
-        running-stands (completed p (steps1to4 o c p)) (completed-sound p (steps1to4 o c p) (steps-sound o c p k (h .sound)))
+        running-stands (completed p (steps1to4 o c p)) (completed-sound p (steps1to4 o c p) (steps-sound o c p k (h .sound))) (steps-in-step p (h .steps) r o c)
         (completed-runs p (steps1to4 o c p) ∙ steps-run p o c ∙ r)
 
 -- ---- flags and peer gone
 
 module _ (p : Port) (on : Bool) where
   flag-sound : (flag : Flag) → SoundPort p → SoundPort (withFlag p flag on)
-  flag-sound Admin h = port-sound (withFlag p Admin on) (h .control) (h .features Groups) (h .features Flow) (h .features Applications) (h .revision)
-  flag-sound Receive h = port-sound (withFlag p Receive on) (h .control) (h .features Groups) (h .features Flow) (h .features Applications) (h .revision)
-  flag-sound Transmit h = port-sound (withFlag p Transmit on) (h .control) (h .features Groups) (h .features Flow) (h .features Applications) (h .revision)
-  flag-sound Several h = port-sound (withFlag p Several on) (h .control) (h .features Groups) (h .features Flow) (h .features Applications) (h .revision)
+  flag-sound Admin h = port-sound (withFlag p Admin on) (h .control) (h .features Groups) (h .features Flow) (h .features Applications) (h .released Groups) (h .released Flow) (h .released Applications) (h .revision) (h .withheld)
+  flag-sound Receive h = port-sound (withFlag p Receive on) (h .control) (h .features Groups) (h .features Flow) (h .features Applications) (h .released Groups) (h .released Flow) (h .released Applications) (h .revision) (h .withheld)
+  flag-sound Transmit h = port-sound (withFlag p Transmit on) (h .control) (h .features Groups) (h .features Flow) (h .features Applications) (h .released Groups) (h .released Flow) (h .released Applications) (h .revision) (h .withheld)
+  flag-sound Several h = port-sound (withFlag p Several on) (h .control) (h .features Groups) (h .features Flow) (h .features Applications) (h .released Groups) (h .released Flow) (h .released Applications) (h .revision) (h .withheld)
 
   -- where a flag does not restart the port, it runs exactly if it did
   stays : (flag : Flag) → restarts flag on p (withFlag p flag on) ≡ false → running p ≡ running (withFlag p flag on)
@@ -129,6 +149,47 @@ module _ (p : Port) (on : Bool) where
   stays Receive e = beq-not (running p) (running (withFlag p Receive on)) e
   stays Transmit e = beq-not (running p) (running (withFlag p Transmit on)) e
   stays Several e = refl
+
+-- a flag that does not restart the port changes nothing of its features
+module _ (p : Port) (on : Bool) (h : InStep p) where
+  flag-stepped : (flag : Flag) → AllStepped (withFlag p flag on)
+  flag-stepped Admin Groups = stepped p h Groups
+  flag-stepped Admin Flow = stepped p h Flow
+  flag-stepped Admin Applications = stepped p h Applications
+  flag-stepped Receive Groups = stepped p h Groups
+  flag-stepped Receive Flow = stepped p h Flow
+  flag-stepped Receive Applications = stepped p h Applications
+  flag-stepped Transmit Groups = stepped p h Groups
+  flag-stepped Transmit Flow = stepped p h Flow
+  flag-stepped Transmit Applications = stepped p h Applications
+  flag-stepped Several Groups = stepped p h Groups
+  flag-stepped Several Flow = stepped p h Flow
+  flag-stepped Several Applications = stepped p h Applications
+
+  flag-feature : (flag : Flag) (f : Feature) → featureOf (withFlag p flag on) f ≡ featureOf p f
+  flag-feature Admin Groups = refl
+  flag-feature Admin Flow = refl
+  flag-feature Admin Applications = refl
+  flag-feature Receive Groups = refl
+  flag-feature Receive Flow = refl
+  flag-feature Receive Applications = refl
+  flag-feature Transmit Groups = refl
+  flag-feature Transmit Flow = refl
+  flag-feature Transmit Applications = refl
+  flag-feature Several Groups = refl
+  flag-feature Several Flow = refl
+  flag-feature Several Applications = refl
+
+  flag-control : (flag : Flag) → withFlag p flag on .control ≡ p .control
+  flag-control Admin = refl
+  flag-control Receive = refl
+  flag-control Transmit = refl
+  flag-control Several = refl
+
+  flag-in-step : (flag : Flag) → running p ≡ running (withFlag p flag on) → InStep (withFlag p flag on)
+  flag-in-step flag e =
+      in-step (withFlag p flag on) (flag-stepped flag)
+      (λ r d f. ap (λ (x : State). x .syncd) (flag-feature flag f) ∙ h .done (e ∙ r) (rw (flag-control flag) at d) f)
 
 still-flag : (p : Port) (flag : Flag) (on : Bool) → still (withFlag p flag on) ≡ withFlag (still p) flag on
 still-flag p Admin on = refl
@@ -149,7 +210,7 @@ flag-stands flag on p h = by (restarts flag on p (withFlag p flag on)) refl
 
     by : (b : Bool) → restarts flag on p (withFlag p flag on) ≡ b → Standing (if b then freshPort (withFlag p flag on) else withFlag p flag on)
     by true e = fresh-stands (withFlag p flag on) (flag-sound p on flag (h .sound))
-    by false e = record { sound = flag-sound p on flag (h .sound); stopped = q-still e }
+    by false e = record { sound = flag-sound p on flag (h .sound); steps = flag-in-step p on (h .steps) flag (stays p on flag e); stopped = q-still e }
 
 pub flagged-stands : (flag : Flag) (on : Bool) (p : Port) → Standing p → Standing (flagged flag on p .port)
 unfolding flagged
@@ -246,11 +307,22 @@ Has p Groups = Unit {0}
 Has p Flow = Unit {0}
 Has p Applications = hasApplications (p .revision) ≡ true
 
-feature-kept : (p : Port) (f : Feature) (x : State) → Has p f → SoundPort p → SoundState f x → SoundPort (withFeature p f x)
-feature-kept p Groups x a h k = port-sound (withFeature p Groups x) (h .control) k (h .features Flow) (h .features Applications) (h .revision)
-feature-kept p Flow x a h k = port-sound (withFeature p Flow x) (h .control) (h .features Groups) k (h .features Applications) (h .revision)
-feature-kept p Applications x a h k =
-    port-sound (withFeature p Applications x) (h .control) (h .features Groups) (h .features Flow) k (λ e. absurd (false≢true (sym e ∙ a)))
+feature-kept : (p : Port) (f : Feature) (x : State) → Has p f → SoundPort p → SoundState f x → x .max ≡ featureOf p f .max → SoundPort (withFeature p f x)
+feature-kept p Groups x a h k e =
+    port-sound (withFeature p Groups x) (h .control) k (h .features Flow) (h .features Applications) (rw e (h .released Groups)) (h .released Flow) (h .released Applications) (h .revision) (h .withheld)
+feature-kept p Flow x a h k e =
+    port-sound (withFeature p Flow x) (h .control) (h .features Groups) k (h .features Applications) (h .released Groups) (rw e (h .released Flow)) (h .released Applications) (h .revision) (h .withheld)
+feature-kept p Applications x a h k e =
+    port-sound (withFeature p Applications x) (h .control) (h .features Groups) (h .features Flow) k (h .released Groups) (h .released Flow) (rw e (h .released Applications))
+    (λ e. absurd (false≢true (sym e ∙ a))) (h .withheld)
+
+reset-max : (f : Feature) (seq : ℕ) (s : Setting) (x : State) → reset f seq s x .max ≡ x .max
+unfolding reset
+reset-max f seq s x = by (Bool·beq (x .setting .advertise) (s .advertise))
+  where
+    by : (b : Bool) → (if b then record { max = x .max; setting = s; outcome = judgedAgain f s (x .outcome); syncd = x .syncd; sequence = x .sequence } else freshAt (next seq) (x .max) s) .max ≡ x .max
+    by true = refl
+    by false = fresh-max (next seq) (x .max) s
 
 feature-runs : (p : Port) (f : Feature) (x : State) → running (withFeature p f x) ≡ running p
 feature-runs p Groups x = refl
@@ -282,12 +354,13 @@ module _ (p : Port) (h : Standing p) where
           let x : State = reset f (p .control .seq) s (featureOf p f) in
           let q : Port = withFeature p f x in
           running-stands (completed p q)
-          (completed-sound p q (feature-kept p f x a (h .sound) (reset-sound f s k (featureOf p f) (h .sound .features f) (p .control .seq))))
+          (completed-sound p q (feature-kept p f x a (h .sound) (reset-sound f s k (featureOf p f) (h .sound .features f) (p .control .seq)) (reset-max f (p .control .seq) s (featureOf p f))))
+          (set-in-step p (h .steps) r f s)
           (completed-runs p q ∙ feature-runs p f x ∙ r)
       by false r =
           let x : State = withSetting (featureOf p f) s in
           fresh-stands (withFeature p f x)
-          (feature-kept p f x a (h .sound) (with-setting-sound f s k (featureOf p f) (h .sound .features f) (none-held f r)))
+          (feature-kept p f x a (h .sound) (with-setting-sound f s k (featureOf p f) (h .sound .features f) (none-held f r)) refl)
 
   changed-stands : (f : Feature) → Has p f → (w : Switches) (o : List ℕ) → Standing (changedFeature f w o p .port)
   unfolding changedFeature setTo
@@ -341,6 +414,9 @@ module _ (v : Versions) (w : Feature → Switches) (o : Feature → List ℕ) wh
         groups = fresh (v .groups) (settingOf Groups (w Groups) (o Groups));
         flow = fresh (v .flow) (settingOf Flow (w Flow) (o Flow));
         applications = fresh (v .applications) (settingOf Applications (w Applications) (o Applications));
+        released =
+            presents (fresh (v .groups) (settingOf Groups (w Groups) (o Groups))) (fresh (v .flow) (settingOf Flow (w Flow) (o Flow)))
+            (fresh (v .applications) (settingOf Applications (w Applications) (o Applications)));
       }
 
   pub created-runs : running (createdPort v w o) ≡ true
@@ -367,6 +443,9 @@ module _ (v : Versions) (w : Feature → Switches) (o : Feature → List ℕ) wh
         groups = state-again (v .groups) (settingOf Groups (w Groups) (o Groups)) i;
         flow = state-again (v .flow) (settingOf Flow (w Flow) (o Flow)) i;
         applications = state-again (v .applications) (settingOf Applications (w Applications) (o Applications)) i;
+        released =
+            presents (state-again (v .groups) (settingOf Groups (w Groups) (o Groups)) i) (state-again (v .flow) (settingOf Flow (w Flow) (o Flow)) i)
+            (state-again (v .applications) (settingOf Applications (w Applications) (o Applications)) i);
       })
 
   module _ (control : v .control < 256) (features : (f : Feature) → maxOf v f < 256) (good : settingsValid o ≡ true)
@@ -381,14 +460,23 @@ module _ (v : Versions) (w : Feature → Switches) (o : Feature → List ℕ) wh
         (bare-sound Groups (features Groups) (valid-at Groups))
         (bare-sound Flow (features Flow) (valid-at Flow))
         (bare-sound Applications (features Applications) (valid-at Applications))
+        (present-sound Groups _ (bare-sound Groups (features Groups) (valid-at Groups)))
+        (present-sound Flow _ (bare-sound Flow (features Flow) (valid-at Flow)))
+        (present-sound Applications _ (bare-sound Applications (features Applications) (valid-at Applications)))
         (λ e. record {
           setting = fresh-setting 1 (v .applications) (settingOf Applications (w Applications) (o Applications)) ∙ (λ i. settingOf Applications (without e .0 i) (without e .1 i));
           max = fresh-max 1 (v .applications) (settingOf Applications (w Applications) (o Applications)) ∙ without e .2;
         })
+        (λ e. fresh-setting 1 (v .applications) (settingOf Applications (w Applications) (o Applications)) ∙ (λ i. settingOf Applications (without e .0 i) (without e .1 i)))
+
+    unsent-ready : AllReady unsent
+    unsent-ready Groups = fresh-ready Groups (v .groups) (settingOf Groups (w Groups) (o Groups)) (unsent .control) refl
+    unsent-ready Flow = fresh-ready Flow (v .flow) (settingOf Flow (w Flow) (o Flow)) (unsent .control) refl
+    unsent-ready Applications = fresh-ready Applications (v .applications) (settingOf Applications (w Applications) (o Applications)) (unsent .control) refl
 
     pub created-stands : Standing (createdPort v w o)
     unfolding started
-    created-stands = running-stands (createdPort v w o) (sent-sound unsent unsent-sound) created-runs
+    created-stands = running-stands (createdPort v w o) (sent-sound unsent unsent-sound) (sent-in-step unsent unsent-ready) created-runs
 
 -- ---- where no port has been made
 
@@ -406,11 +494,20 @@ none-valid = blank-valid Applications
 blank-state-sound : (f : Feature) → SoundState f (blankState f)
 blank-state-sound f = fresh-sound 1 0 (settingOf f switchedOff (blankParameters f)) f (lit< tt) (lit< tt) (setting-sound f switchedOff (blankParameters f) (blank-valid f))
 
+blank-stepped : AllStepped blankPort
+unfolding blankPort
+blank-stepped Groups = fresh-stepped Groups 0 (settingOf Groups switchedOff (blankParameters Groups)) (freshControl 0) refl
+blank-stepped Flow = fresh-stepped Flow 0 (settingOf Flow switchedOff (blankParameters Flow)) (freshControl 0) refl
+blank-stepped Applications = fresh-stepped Applications 0 (settingOf Applications switchedOff (blankParameters Applications)) (freshControl 0) refl
+
 pub blank-stands : Standing blankPort
 unfolding blankPort freshPort freshAt hasApplications
 blank-stands =
     record {
       sound = port-sound blankPort (record { max = lit< tt; oper = le-refl 0; seq = lit< tt; ack = lit< tt; rcvd = lit< tt })
-          (blank-state-sound Groups) (blank-state-sound Flow) (blank-state-sound Applications) (λ e. absurd (false≢true (sym e)));
+          (blank-state-sound Groups) (blank-state-sound Flow) (blank-state-sound Applications)
+          (present-sound Groups _ (blank-state-sound Groups)) (present-sound Flow _ (blank-state-sound Flow)) (present-sound Applications _ (blank-state-sound Applications))
+          (λ e. absurd (false≢true (sym e))) (λ e. absurd (false≢true (sym e)));
+      steps = in-step blankPort blank-stepped (λ r e f. absurd (false≢true r));
       stopped = λ e. refl;
     }

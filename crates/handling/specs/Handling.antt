@@ -1,5 +1,5 @@
 -- 01, Handling a frame.
-use Prim.Native.Nat.{ℕ, _+_}
+use Prim.Native.Nat.{ℕ}
 use mathlib.Core.Bool.{Bool, true, false, not, _&&_, _||_}
 use mathlib.Core.List.{List}
 use Rattle.octets.specs.Words.{if_then_else_, _below_, _is_}
@@ -14,7 +14,6 @@ use Rattle.tlv.specs.Layout.{valueOf}
 use Rattle.tlv.specs.Revisions.{readFor}
 use Rattle.parameters.specs.declared.Feature.{Feature}
 use Rattle.parameters.specs.declared.Feature.the-variants.{Groups, Flow, Applications}
-use Rattle.feature.specs.declared.State.{State}
 use Rattle.feature.specs.Outcome.{Received, lower}
 use Rattle.feature.specs.State.{controlTwice, acknowledged, received}
 use Rattle.notices.specs.declared.Kind.{Kind}
@@ -27,7 +26,7 @@ use Rattle.port.specs.declared.Notices.{Notices}
 use Rattle.port.specs.declared.Raised.{Raised}
 use Rattle.port.specs.declared.Raised.the-variants as raised
 use Rattle.port.specs.Parts.{featureOf, withControl, withFeatures, running}
-use Rattle.port.specs.PortEvents.{event, completed}
+use Rattle.events.specs.PortEvents.{event, completed}
 
 -- What a frame with one readable control has: its versions, its numbers, and the three features.
 pub record Message : Type 0 where

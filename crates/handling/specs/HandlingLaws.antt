@@ -3,13 +3,13 @@
 use Prim.Native.Nat.{ℕ, _+_, _-_, _<_, _≤_}
 use native.Mathlib.Nat.{add-sub-cancel-left}
 use native.Mathlib.Omega.{arith}
-use mathlib.Core.Bool.{Bool, true, false, not, _&&_, _||_, Bool·beq}
+use mathlib.Core.Bool.{Bool, true, false, not, _&&_, _||_}
 use mathlib.Core.Path.{_≡_, _∙_, refl, sym, ap}
-use mathlib.Core.List.{List, [], _∷_}
+use mathlib.Core.List.{List}
 use lib.ListN.{length, take, drop}
-use borrow.Author.Tests.{not-true, not-false, lt-ltb, le-ltb, eq-eqb, ne-eqb}
+use borrow.Author.Tests.{not-false, lt-ltb, le-ltb, eq-eqb, ne-eqb}
 use Rattle.octets.specs.Words.{if_then_else_, _below_, _is_}
-use Rattle.octets.specs.Octets.{at, number4, same, headed}
+use Rattle.octets.specs.Octets.{at, number4, same}
 use Rattle.tlv.specs.declared.Contents.{Contents}
 use Rattle.tlv.specs.declared.Found.{Found}
 use Rattle.tlv.specs.declared.Refusal.{Refusal}
@@ -23,19 +23,18 @@ use Rattle.tlv.specs.Layout.{valueOf}
 use Rattle.parameters.specs.declared.Feature.{Feature}
 use Rattle.parameters.specs.declared.Feature.the-variants.{Groups, Flow, Applications}
 use Rattle.parameters.specs.declared.Parameters.{Parameters}
-use Rattle.parameters.specs.Parameters.{featureNumber, content}
-use Rattle.feature.specs.declared.Setting.{Setting}
 use Rattle.feature.specs.declared.State.{State}
 use Rattle.feature.specs.declared.steps.Course.{Course}
 use Rattle.feature.specs.declared.steps.Course.the-variants.{Twice, OtherVersion, Exchange}
 use Rattle.feature.specs.declared.steps.Turn.{Turn}
 use Rattle.feature.specs.Outcome.{lower}
-use Rattle.feature.specs.State.{flags, subTlv, controlTwice, acknowledged, received, changed, marked}
-use Rattle.feature.specs.TurnLaws.{Same, after, turnOf, peerParametersAfter, renewed, changedBy, changed-by, after-same, renewed-after}
+use Rattle.feature.specs.State.{next, controlTwice, acknowledged, received, marked}
+use Rattle.feature.specs.TurnLaws.{Same, after, turnOf, peerParametersAfter, renewed, after-same, renewed-after}
 use Rattle.handling.specs.declared.Heard.{Heard}
 use Rattle.handling.specs.declared.Change.{Change}
 use Rattle.port.specs.declared.Control.{Control}
 use Rattle.port.specs.declared.Port.{Port}
+use Rattle.port.specs.declared.Released.{Released}
 use Rattle.port.specs.declared.Raised.{Raised}
 use Rattle.port.specs.declared.Raised.the-variants as raised
 use Rattle.port.specs.declared.Notices.{Notices}
@@ -44,11 +43,11 @@ use Rattle.port.specs.declared.Answer.the-variants.{Done}
 use Rattle.port.specs.declared.Answer.the-variants as answer
 use Rattle.notices.specs.declared.Kind.{Kind}
 use Rattle.notices.specs.declared.Kind.the-variants.{ControlError, DuplicateControl}
-use Rattle.port.specs.Parts.{featureOf, three, withControl, withFeatures, some, running}
+use Rattle.port.specs.Parts.{featureOf, three, withControl, withFeatures, presents, withReleased, release, some, running}
 use Rattle.port.specs.Writing.{controlValue, asks}
-use Rattle.port.specs.EventLaws.{counted, sent-counted}
-use Rattle.port.specs.PortEvents.{unsynced, completed, becomes, raises}
-use Rattle.port.specs.WritingLaws.{asks-parts}
+use Rattle.events.specs.EventLaws.{counted, sent-counted}
+use Rattle.events.specs.PortEvents.{unacknowledged, raisesSeqNo, step5, completed, becomes, raises}
+use Rattle.port.specs.WritingLaws.{controls-raised, asks-control, asks-raised}
 use Rattle.handling.specs.Handling.{Message, hasOf, message, seenTwice, twice, met, numbered, exchanged, once, steps1to4, newlyMarked, markNotice, frameEvent, accepted, breaks, withBroken, alone, rejected, given, handled}
 
 -- ---- which frames are taken
@@ -151,22 +150,8 @@ pub turn-is : (f : Feature) (x : State) (h : Heard) (seq : ℕ) (o : List ℕ) (
 turn-is f x h seq o found ev e =
     e ∙ ap (λ (v : List ℕ). turnOf (after (h .course) f (record { count = found .count; value = v }) (h .control .rcvd) seq x)) ev
 
-abbrev pub waitsBy : State → Turn → Bool
-waitsBy x t = x .setting .advertise && not (t .syncd)
-
-module _ (x : State) (t : Turn) where
-  pub changes-withheld : not (x .setting .advertise) ≡ true → false ≡ changedBy x t
-  unfolding changedBy
-  changes-withheld a = simp (not-true (x .setting .advertise) a)
-
-  module _ (a : not (x .setting .advertise) ≡ false) where
-    pub changes-oper : (x .outcome .oper ≡ t .decision .oper → ⊥) → true ≡ changedBy x t
-    unfolding changedBy
-    changes-oper n = simp (not-false (x .setting .advertise) a, ne-eqb (x .outcome .oper) (t .decision .oper) n)
-
-    pub changes-error : x .outcome .oper ≡ t .decision .oper → not (Bool·beq (x .outcome .error) (t .decision .error)) ≡ changedBy x t
-    unfolding changedBy
-    changes-error e = simp (not-false (x .setting .advertise) a, eq-eqb (x .outcome .oper) (t .decision .oper) e)
+abbrev pub waitsBy : Turn → Bool
+waitsBy t = not (t .syncd)
 
 -- ---- the notice of the port
 
@@ -198,16 +183,25 @@ reject-is why place p eb ex = rw (ex, eb) refl
 
 -- ---- the port
 
+-- what is released behind it
+abbrev releasedBy : Released → Bool → State → State → State → Released
+releasedBy r up g w a = if up then presents g w a else r
+
 -- the port after a frame, by the way that the frame takes
 module _ (o : List ℕ) (c : Contents) (p : Port) where
   abbrev stateBy : Heard → Feature → State
   stateBy h f = after (h .course) f (hasOf o c f) (h .control .rcvd) (p .control .seq) (featureOf p f)
 
+  abbrev upBy : Heard → Bool
+  upBy h = some (λ f. unacknowledged (stateBy h f)) && h .control .rcvd is h .control .seq
+
   abbrev controlAfter : Heard → Control
-  controlAfter h = counted (some (λ f. unsynced (stateBy h f)) && h .control .rcvd is h .control .seq) (h .control)
+  controlAfter h = counted (upBy h) (h .control)
 
   abbrev portBy : Heard → Port
-  portBy h = withFeatures (withControl p (controlAfter h)) (stateBy h)
+  portBy h =
+      withReleased (withFeatures (withControl p (controlAfter h)) (stateBy h))
+      (releasedBy (p .released) (upBy h) (stateBy h Groups) (stateBy h Flow) (stateBy h Applications))
 
 completed-by : (o : List ℕ) (c : Contents) (p : Port) → completed p (steps1to4 o c p) ≡ portBy o c p (heardOf o c (p .control))
 unfolding steps1to4 once twice exchanged heardOf
@@ -223,6 +217,13 @@ completed-by o c p = by (1 below c .control .count) (message o c .oper is lower 
     by false false ea eb =
         rw (ea, eb) (sent-counted p (met (lower (p .control .max) (message o c .max)) (p .control)) (λ f. marked f (p .control .seq) (featureOf p f) (featureOf p f)))
 
+pub release-is : (p : Port) {r : Released} → r ≡ presents (p .groups) (p .flow) (p .applications) → withReleased p r ≡ release p
+release-is p e = rw e refl
+
+-- the port after a frame, before anything is released
+abbrev pub unreleased : List ℕ → Contents → Port → Port
+unreleased o c p = withReleased (completed p (steps1to4 o c p)) (p .released)
+
 -- what a frame changes, of the port before it and after it
 unfoldable pub changeOf : List ℕ → Contents → Port → Change
 changeOf o c p =
@@ -230,6 +231,7 @@ changeOf o c p =
     record {
       course = heardOf o c (p .control) .course;
       wish = asks p q;
+      releases = raisesSeqNo (step5 p (steps1to4 o c p));
       control = q .control;
       groups = turnOf (q .groups);
       flow = turnOf (q .flow);
@@ -237,25 +239,25 @@ changeOf o c p =
       notices = raises (markNotice p q) p q;
     }
 
-unsynced-by : (x y : State) → Same x y → unsynced y ≡ waitsBy x (turnOf y)
-unfolding unsynced
-unsynced-by x y s = rw (s .setting) refl
-
--- a sub-TLV's length is told by the setting
-length-by : (f : Feature) (x y : State) → Same x y → length (subTlv f x) ≡ length (subTlv f y)
-unfolding subTlv
-length-by f x y s = by (x .setting) (y .setting) (s .setting)
+-- steps 1 to 4 leave SeqNo, and each feature's Max
+heard-seq : (o : List ℕ) (c : Contents) (k : Control) → heardOf o c k .control .seq ≡ k .seq
+unfolding heardOf
+heard-seq o c k = by (courseOf o c k)
   where
-    by : (t u : Setting) → u ≡ t →
-        length (if t .advertise then headed (featureNumber f) (x .outcome .oper ∷ x .max ∷ flags (t .enable) (t .willing) (x .outcome .error) ∷ 0 ∷ content (t .desired)) else [])
-        ≡ length (if u .advertise then headed (featureNumber f) (y .outcome .oper ∷ y .max ∷ flags (u .enable) (u .willing) (y .outcome .error) ∷ 0 ∷ content (u .desired)) else [])
-    by t u e = rw e (same (t .advertise))
-      where
-        same : (a : Bool) →
-            length (if a then headed (featureNumber f) (x .outcome .oper ∷ x .max ∷ flags (t .enable) (t .willing) (x .outcome .error) ∷ 0 ∷ content (t .desired)) else [])
-            ≡ length (if a then headed (featureNumber f) (y .outcome .oper ∷ y .max ∷ flags (t .enable) (t .willing) (y .outcome .error) ∷ 0 ∷ content (t .desired)) else [])
-        same true = refl
-        same false = refl
+    by : (w : Course) → controlBy w (message o c) k .seq ≡ k .seq
+    by Twice = refl
+    by OtherVersion = refl
+    by Exchange = refl
+
+raises-by : (o : List ℕ) (c : Contents) (p : Port) → raisesSeqNo (step5 p (steps1to4 o c p)) ≡ upBy o c p (heardOf o c (p .control))
+unfolding raisesSeqNo steps1to4 once twice exchanged heardOf
+raises-by o c p = by (1 below c .control .count) (message o c .oper is lower (p .control .max) (message o c .max)) refl refl
+  where
+    by : (a b : Bool) → 1 below c .control .count ≡ a → message o c .oper is lower (p .control .max) (message o c .max) ≡ b
+        → raisesSeqNo (step5 p (steps1to4 o c p)) ≡ upBy o c p (heardOf o c (p .control))
+    by true b ea eb = rw ea refl
+    by false true ea eb = rw (ea, eb) refl
+    by false false ea eb = rw (ea, eb) refl
 
 -- ---- what is decided, and what is made of it
 
@@ -271,27 +273,32 @@ module _ (o : List ℕ) (c : Contents) (p : Port) where
     kept : (f : Feature) → Same (featureOf p f) (stateBy o c p h f)
     kept f = after-same (h .course) f (hasOf o c f) (h .control .rcvd) (p .control .seq) (featureOf p f)
 
-    pub decide-is : {x y z : Bool} → x ≡ waitsBy (p .groups) g → y ≡ waitsBy (p .flow) w → z ≡ waitsBy (p .applications) a
-        → {k : Control} → k ≡ counted (((x || y) || z) && h .control .rcvd is h .control .seq) (h .control)
+    -- a release comes with another SeqNo
+    wished : (u : Bool) → upBy o c p h ≡ u → {s : Bool} → s ≡ same (controlValue (p .control)) (controlValue (q .control)) → not s ≡ asks p q
+    wished true e {s} es =
+        let seq : q .control .seq ≡ next (p .control .seq) = rw e (ap next (ap (λ (h : Heard). h .control .seq) eh ∙ heard-seq o c (p .control))) in
+        let t : s ≡ false = es ∙ controls-raised (p .control) (q .control) seq in
+        ap not t ∙ asks-raised p q runs runs es t
+    wished false e es = asks-control p q runs runs (λ f. max f) (rw e refl) es
+      where
+        max : (f : Feature) → featureOf q f .max ≡ featureOf p f .max
+        max Groups = kept Groups .max
+        max Flow = kept Flow .max
+        max Applications = kept Applications .max
+
+    pub decide-is : {x y z : Bool} → x ≡ waitsBy g → y ≡ waitsBy w → z ≡ waitsBy a
+        → {u : Bool} → u ≡ (((x || y) || z) && h .control .rcvd is h .control .seq) → {k : Control} → k ≡ counted u (h .control)
         → {s : Bool} → s ≡ same (controlValue (p .control)) (controlValue k)
-        → {b d e : Bool} → b ≡ changedBy (p .groups) g → d ≡ changedBy (p .flow) w → e ≡ changedBy (p .applications) a
         → {n : Notices} → n .port ≡ newlyMarked DuplicateControl (p .control .duplicate) (k .duplicate) → n .groups ≡ becomes (p .groups .outcome .reason) (g .decision .reason)
         → n .flow ≡ becomes (p .flow .outcome .reason) (w .decision .reason) → n .applications ≡ becomes (p .applications .outcome .reason) (a .decision .reason)
-        → record { course = h .course; wish = not s || ((b || d) || e); control = k; groups = g; flow = w; applications = a; notices = n } ≡ changeOf o c p
-    unfolding changeOf
-    decide-is {x} {y} {z} ex ey ez {k} ek {s} es {b} {d} {e} eb ed ee {n} np ng nw na =
-        let ux : x ≡ unsynced (q .groups) = ex ∙ ap (waitsBy (p .groups)) eg ∙ sym (unsynced-by (p .groups) (q .groups) (kept Groups)) in
-        let uy : y ≡ unsynced (q .flow) = ey ∙ ap (waitsBy (p .flow)) ew ∙ sym (unsynced-by (p .flow) (q .flow) (kept Flow)) in
-        let uz : z ≡ unsynced (q .applications) = ez ∙ ap (waitsBy (p .applications)) ea ∙ sym (unsynced-by (p .applications) (q .applications) (kept Applications)) in
-        let uk : k ≡ q .control =
-        ek ∙ (λ i. counted (((ux i || uy i) || uz i) && h .control .rcvd is h .control .seq) (h .control)) in
-        let cg : b ≡ changed Groups (p .groups) (q .groups) = eb ∙ ap (changedBy (p .groups)) eg ∙ sym (changed-by Groups (p .groups) (q .groups) (kept Groups)) in
-        let cw : d ≡ changed Flow (p .flow) (q .flow) = ed ∙ ap (changedBy (p .flow)) ew ∙ sym (changed-by Flow (p .flow) (q .flow) (kept Flow)) in
-        let ca : e ≡ changed Applications (p .applications) (q .applications) =
-        ee ∙ ap (changedBy (p .applications)) ea ∙ sym (changed-by Applications (p .applications) (q .applications) (kept Applications)) in
-        let wish : (not s || ((b || d) || e)) ≡ asks p q =
-        asks-parts p q (length-by Groups (p .groups) (q .groups) (kept Groups)) (length-by Flow (p .flow) (q .flow) (kept Flow)) runs runs
-        (es ∙ ap (λ (k : Control). same (controlValue (p .control)) (controlValue k)) uk) cg cw ca in
+        → record { course = h .course; wish = not s; releases = u; control = k; groups = g; flow = w; applications = a; notices = n } ≡ changeOf o c p
+    unfolding changeOf unacknowledged
+    decide-is {x} {y} {z} ex ey ez {u} eu {k} ek {s} es {n} np ng nw na =
+        let waits : ((x || y) || z) ≡ some (λ f. unacknowledged (stateBy o c p h f)) = λ i. ((ex ∙ ap waitsBy eg) i || (ey ∙ ap waitsBy ew) i) || (ez ∙ ap waitsBy ea) i in
+        let uu : u ≡ upBy o c p h = eu ∙ ap (λ (b : Bool). b && h .control .rcvd is h .control .seq) waits in
+        let uk : k ≡ q .control = ek ∙ ap (λ (b : Bool). counted b (h .control)) uu in
+        let up : u ≡ raisesSeqNo (step5 p (steps1to4 o c p)) = uu ∙ ap (upBy o c p) eh ∙ sym (raises-by o c p) in
+        let wish : not s ≡ asks p q = wished (upBy o c p h) refl (es ∙ ap (λ (k : Control). same (controlValue (p .control)) (controlValue k)) uk) in
         let notices : n ≡ raises (markNotice p q) p q =
         λ i. record {
           port = (np ∙ ap (λ (k : Control). newlyMarked DuplicateControl (p .control .duplicate) (k .duplicate)) uk) i;
@@ -299,7 +306,7 @@ module _ (o : List ℕ) (c : Contents) (p : Port) where
           flow = (nw ∙ ap (λ (t : Turn). becomes (p .flow .outcome .reason) (t .decision .reason)) ew) i;
           applications = (na ∙ ap (λ (t : Turn). becomes (p .applications .outcome .reason) (t .decision .reason)) ea) i;
         } in
-        rw done (λ i. record { course = eh i .course; wish = wish i; control = uk i; groups = eg i; flow = ew i; applications = ea i; notices = notices i })
+        rw done (λ i. record { course = eh i .course; wish = wish i; releases = up i; control = uk i; groups = eg i; flow = ew i; applications = ea i; notices = notices i })
 
   part-made : (f : Feature) {t : Turn} {way : Course} {x : Parameters} {y : State} → way ≡ heardOf o c (p .control) .course → t ≡ turnOf (stateBy o c p (heardOf o c (p .control)) f)
       → x ≡ peerParametersAfter way f (hasOf o c f .value) (t .decision .held) (featureOf p f) → y ≡ renewed (featureOf p f) t x → y ≡ stateBy o c p (heardOf o c (p .control)) f
@@ -315,7 +322,7 @@ module _ (o : List ℕ) (c : Contents) (p : Port) where
       → y ≡ peerParametersAfter (k .course) Flow (valueOf o (c .flow)) (k .flow .decision .held) (p .flow)
       → z ≡ peerParametersAfter (k .course) Applications (valueOf o (c .applications)) (k .applications .decision .held) (p .applications)
       → {g w a : State} → g ≡ renewed (p .groups) (k .groups) x → w ≡ renewed (p .flow) (k .flow) y → a ≡ renewed (p .applications) (k .applications) z
-      → withFeatures (withControl p (k .control)) (three g w a) ≡ completed p (steps1to4 o c p)
+      → withFeatures (withControl p (k .control)) (three g w a) ≡ unreleased o c p
   unfolding changeOf
   apply-is {k} ek ex ey ez {g} {w} {a} eg ew ea =
       let h : Heard = heardOf o c (p .control) in
@@ -328,7 +335,20 @@ module _ (o : List ℕ) (c : Contents) (p : Port) where
       let sg : g ≡ stateBy o c p h Groups = part-made Groups way tg ex eg in
       let sw : w ≡ stateBy o c p h Flow = part-made Flow way tw ey ew in
       let sa : a ≡ stateBy o c p h Applications = part-made Applications way ta ez ea in
-      (λ i. withFeatures (withControl p (ck i)) (three (sg i) (sw i) (sa i))) ∙ sym done
+      (λ i. withFeatures (withControl p (ck i)) (three (sg i) (sw i) (sa i))) ∙ sym (ap (λ (q : Port). withReleased q (p .released)) done)
+
+  -- where SeqNo goes up, the port that is made is released; otherwise it is what the frame makes
+  released-is : raisesSeqNo (step5 p (steps1to4 o c p)) ≡ true → release (unreleased o c p) ≡ completed p (steps1to4 o c p)
+  released-is e =
+      let up : upBy o c p (heardOf o c (p .control)) ≡ true = sym (raises-by o c p) ∙ e in
+      let z : release (portBy o c p (heardOf o c (p .control))) ≡ portBy o c p (heardOf o c (p .control)) = rw up refl in
+      ap release (completed-by o c p) ∙ z ∙ sym (completed-by o c p)
+
+  kept-is : raisesSeqNo (step5 p (steps1to4 o c p)) ≡ false → unreleased o c p ≡ completed p (steps1to4 o c p)
+  kept-is e =
+      let up : upBy o c p (heardOf o c (p .control)) ≡ false = sym (raises-by o c p) ∙ e in
+      let z : withReleased (portBy o c p (heardOf o c (p .control))) (p .released) ≡ portBy o c p (heardOf o c (p .control)) = rw up refl in
+      ap (λ (q : Port). withReleased q (p .released)) (completed-by o c p) ∙ z ∙ sym (completed-by o c p)
 
 -- ---- the whole of it
 
@@ -356,6 +376,11 @@ module _ {p : Port} {o : List ℕ} {c : Contents} (a : Admits p o (Accepted c)) 
   pub accepted-runs : running p ≡ true
   accepted-runs = a .runs c refl
 
-  pub accept-is : {d : Change} {q : Port} → d ≡ changeOf o c p → q ≡ completed p (steps1to4 o c p)
-      → record { answer = Done (d .wish); port = q; notices = d .notices } ≡ handled p o
-  accept-is ed eq = handle-accepted p o a refl ed eq
+  module _ {d : Change} (ed : d ≡ changeOf o c p) {q : Port} (eq : q ≡ unreleased o c p) where
+    pub accept-released : d .releases ≡ true → {x : Port} → x ≡ release q → record { answer = Done (d .wish); port = x; notices = d .notices } ≡ handled p o
+    unfolding changeOf
+    accept-released t ex = handle-accepted p o a refl ed (ex ∙ ap release eq ∙ released-is o c p (sym (ap (λ (d : Change). d .releases) ed) ∙ t))
+
+    pub accept-kept : d .releases ≡ false → record { answer = Done (d .wish); port = q; notices = d .notices } ≡ handled p o
+    unfolding changeOf
+    accept-kept t = handle-accepted p o a refl ed (eq ∙ kept-is o c p (sym (ap (λ (d : Change). d .releases) ed) ∙ t))

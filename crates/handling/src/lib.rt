@@ -7,12 +7,12 @@ ghost use lib.ListN.{length};
 ghost use Rattle.tlv.specs.declared.Reading.the-variants.{Accepted};
 ghost use Rattle.tlv.specs.Layout.{valueOf};
 ghost use Rattle.tlv.specs.Promises.{Inside};
-ghost use Rattle.feature.specs.TurnLaws.{changedBy, peerParametersAfter};
+ghost use Rattle.feature.specs.TurnLaws.{peerParametersAfter};
 ghost use Rattle.parameters.specs.declared.Feature.the-variants.{Groups, Flow, Applications};
-ghost use Rattle.port.specs.Parts.{running};
-ghost use Rattle.port.specs.PortEvents.{becomes, completed};
-ghost use Rattle.handling.specs.Handling.{newlyMarked, breaks, rejected, handled, steps1to4};
-ghost use Rattle.handling.specs.HandlingLaws.{Admits, afterIn, changeOf, heardOf, waitsBy};
+ghost use Rattle.port.specs.Parts.{release, running};
+ghost use Rattle.events.specs.PortEvents.{becomes};
+ghost use Rattle.handling.specs.Handling.{newlyMarked, breaks, rejected, handled};
+ghost use Rattle.handling.specs.HandlingLaws.{Admits, afterIn, changeOf, heardOf, unreleased, waitsBy};
 use feature::State;
 use feature::steps::Course;
 use feature::steps::Turn;
@@ -34,6 +34,7 @@ use tlv::Refusal;
 struct Change {
     course: Course,
     wish: bool,
+    releases: bool,
     control: Control,
     groups: Turn,
     flow: Turn,
@@ -191,28 +192,11 @@ fn turn_of_applications(x: State, h: Heard, seq: u32, s: &[u8], found: Found) ->
     )
 }
 
-// Whether the feature is advertised and waits for an acknowledgement.
-fn waits(x: State, t: Turn) -> bool
-    ensures { λ r. ⌜ r ≡ waitsBy x t ⌝ }
+// Whether the feature waits for an acknowledgement.
+fn waits(t: Turn) -> bool
+    ensures { λ r. ⌜ r ≡ waitsBy t ⌝ }
 {
-    let s = x.setting;
-    s.advertise & !t.syncd
-}
-
-// Whether the feature's sub-TLV changed: a frame leaves its setting.
-fn changes(x: State, t: Turn) -> bool
-    ensures { λ r. ⌜ r ≡ changedBy x t ⌝ }
-{
-    let s = x.setting;
-    let o = x.outcome;
-    let d = t.decision;
-    if !s.advertise {
-        return false;
-    }
-    if o.oper != d.oper {
-        return true;
-    }
-    o.error != d.error
+    !t.syncd
 }
 
 // The notice of a mark that was off before.
@@ -236,10 +220,11 @@ fn notice(x: State, t: Turn) -> Raised
     let d = t.decision;
     let why = o.reason;
     let now = d.reason;
-    port::events::becomes(why, now)
+    events::becomes(why, now)
 }
 
-// Decides what a frame that is accepted changes: `admit` says that the port runs and that the parts lie inside.
+// Decides what a frame that is accepted changes: `admit` says that the port runs and that the parts lie inside. A release comes with
+// another SeqNo, so that the control tells whether the octets to be written differ.
 fn decide(p: Port, s: &[u8], c: Contents) -> Change
     requires { ⌜ Inside (now s) c × (running p ≡ true) ⌝ }
     ensures { λ r. ⌜ r ≡ changeOf (now (s .entry)) c p ⌝ }
@@ -250,17 +235,17 @@ fn decide(p: Port, s: &[u8], c: Contents) -> Change
     let a = turn_of_applications(p.applications, h, old.seq, s, c.applications);
     let g = turn_of_groups(p.groups, h, old.seq, s, c.groups);
     let w = turn_of_flow(p.flow, h, old.seq, s, c.flow);
-    let waiting = waits(p.groups, g) | waits(p.flow, w) | waits(p.applications, a);
-    let control = port::events::count(h.control, waiting);
+    let up = events::raises_seq(h.control, waits(g) | waits(w) | waits(a));
+    let control = events::count(h.control, up);
     let same = port::writing::same_control(old, control);
-    let changed = changes(p.groups, g) | changes(p.flow, w) | changes(p.applications, a);
     let x = newly_marked(Kind::DuplicateControl, old.duplicate, control.duplicate);
     let y = notice(p.groups, g);
     let z = notice(p.flow, w);
     let v = notice(p.applications, a);
     Change {
         course: course,
-        wish: !same | changed,
+        wish: !same,
+        releases: up,
         control: control,
         groups: g,
         flow: w,
@@ -290,10 +275,19 @@ fn peer_parameters(
     feature::steps::peer_parameters_after(f, x, course, d.held, part(s, found))
 }
 
-// The port after a frame that is accepted, by what `decide` says that it changes.
+// The port with all features released (02, E5).
+fn release(p: Port) -> Port
+    ensures { λ r. ⌜ r ≡ release p ⌝ }
+{
+    let mut next = p;
+    next.released = events::presents(p.groups, p.flow, p.applications);
+    next
+}
+
+// The port after a frame that is accepted, by what `decide` says that it changes, before anything is released.
 fn apply(p: Port, k: Change, s: &[u8], c: Contents) -> Port
     requires { ⌜ Inside (now s) c × (k ≡ changeOf (now s) c p) ⌝ }
-    ensures { λ r. ⌜ r ≡ completed p (steps1to4 (now (s .entry)) c p) ⌝ }
+    ensures { λ r. ⌜ r ≡ unreleased (now (s .entry)) c p ⌝ }
 {
     let course = k.course;
     let control = k.control;
@@ -324,6 +318,13 @@ pub fn accept(p: Port, s: &[u8], c: Contents) -> Event
     let change = decide(p, s, c);
     let port = apply(p, change, s, c);
     let notices = change.notices;
+    if change.releases {
+        return Event {
+            answer: Answer::Done(change.wish),
+            port: release(port),
+            notices: notices,
+        };
+    }
     Event {
         answer: Answer::Done(change.wish),
         port: port,

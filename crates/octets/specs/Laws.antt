@@ -6,7 +6,7 @@ use native.Mathlib.Nat.{add-zero, add-suc, suc-add}
 use mathlib.Core.Path.{_≡_, refl, sym, ap, _∙_}
 use mathlib.Core.Bool.{Bool, true, false, _&&_}
 use mathlib.Core.List.{List, [], _∷_, _++_}
-use lib.ListN.{length, length-set, length-drop, set, take, drop, getD, List·getD-eq-default, drop-of-length-le}
+use lib.ListN.{length, length-set, length-drop, set, take, drop, List·getD-eq-default, drop-of-length-le}
 use lib.Seq.{drop-cons, drop-length, sets, length-take-le, take-suc, take-all, take-nil}
 use borrow.Author.Tests.{eq-eqb, ne-eqb, eqb-true}
 use Rattle.octets.specs.Words.{_is_}

@@ -10,8 +10,8 @@ use parameters::Parameters;
 use port::Port;
 use tlv::Revision;
 
-// Five rounds are always enough (01, Rounds of two ends).
-const ROUNDS: u64 = 5;
+// Six rounds are always enough (02, E5; exchange/specs/Demand3.antt).
+const ROUNDS: u64 = 6;
 
 // The number of the port at each end.
 const PORT: u8 = 1;
@@ -27,7 +27,7 @@ struct Ends {
 
 // A port, just created.
 fn create(s: Settings) -> Port {
-    let e = console::settings::create(port::events::blank(), s);
+    let e = console::settings::create(events::blank(), s);
     e.port
 }
 
@@ -56,7 +56,7 @@ fn behind_round(e: Ends) -> Ends {
     }
 }
 
-// Rounds until both ends are settled; settled means agreed (exchange/specs/Demand3.antt, `agrees`).
+// Rounds until both ends are settled; both settled means agreed (exchange/specs/Demand3.antt, `agrees`).
 fn settle(a: Port, b: Port) -> Ends {
     let none = notices::empty();
     let mut ends = Ends {

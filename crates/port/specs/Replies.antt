@@ -1,7 +1,7 @@
 -- What a port answers, in document 01's numbers.
 use Prim.Native.Nat.{ℕ}
 use mathlib.Core.Bool.{Bool}
-use mathlib.Core.List.{List, [], _∷_}
+use mathlib.Core.List.{[], _∷_}
 use Rattle.octets.specs.Words.{if_then_else_}
 use Rattle.tlv.specs.Refusals.{Reply, done, refusal, refusalAt}
 use Rattle.notices.specs.Notices.{noticeNumber}

@@ -1,8 +1,10 @@
--- What every reachable port has: lengths, ranges, Oper at most Max, valid settings. (In antt an array is a list of any length and a
+-- What every reachable port has: lengths, ranges, Oper at most Max, valid settings, also of what was last released; and how far what is released
+-- is the present (`InStep`). (In antt an array is a list of any length and a
 -- number has no bound, so theorems over ports need it.)
-use Prim.Native.Nat.{_<_, _≤_, _^_}
+use Prim.Native.Nat.{ℕ, _<_, _≤_, _^_}
 use mathlib.Core.Path.{_≡_}
 use mathlib.Core.Bool.{Bool, true, false, not, _&&_}
+use mathlib.Core.Logic.{_⊎_}
 use mathlib.Core.List.{[]}
 use Rattle.tlv.specs.Revisions.{hasApplications}
 use Rattle.parameters.specs.declared.Feature.{Feature}
@@ -12,12 +14,13 @@ use Rattle.parameters.specs.Parameters as parameters
 use Rattle.feature.specs.declared.Setting.{Setting}
 use Rattle.feature.specs.declared.Peer.{Peer}
 use Rattle.feature.specs.declared.State.{State}
+use Rattle.feature.specs.declared.Release.{Release}
 use Rattle.feature.specs.Outcome.{noPeer}
-use Rattle.feature.specs.State.{settingOf}
+use Rattle.feature.specs.State.{next, subTlv, settingOf}
 use Rattle.port.specs.declared.Control.{Control}
 use Rattle.port.specs.declared.Port.{Port}
-use Rattle.port.specs.Parts.{featureOf}
-use Rattle.port.specs.PortEvents.{switchedOff}
+use Rattle.port.specs.Parts.{switchedOff, featureOf, releasedOf, running}
+use Rattle.port.specs.Writing.{releasedTlv}
 
 -- valid parameters as a state holds them: 96 places, zero past the length, and no application entry but our own
 pub record SoundParameters (f : Feature) (p : Parameters) : Type 0 where
@@ -56,6 +59,11 @@ pub record SoundControl (c : Control) : Type 0 where
   pub ack : c .ack < 2 ^ 32
   pub rcvd : c .rcvd < 2 ^ 32
 
+-- what was last released of a feature with a Max: well-formed, so that it is read as it is written
+pub record SoundRelease (f : Feature) (max : ℕ) (r : Release) : Type 0 where
+  pub oper : r .oper ≤ max
+  pub setting : SoundSetting f (r .setting)
+
 -- 02, E11: "for 1.0 creation takes no setting for type 4, which is held unadvertised, not enabled and empty"
 pub record NoApplications (x : State) : Type 0 where
   pub setting : x .setting ≡ settingOf Applications switchedOff []
@@ -64,4 +72,17 @@ pub record NoApplications (x : State) : Type 0 where
 pub record SoundPort (p : Port) : Type 0 where
   pub control : SoundControl (p .control)
   pub features : (f : Feature) → SoundState f (featureOf p f)
+  pub released : (f : Feature) → SoundRelease f (featureOf p f .max) (releasedOf p f)
   pub revision : hasApplications (p .revision) ≡ false → NoApplications (p .applications)
+  -- nor are applications released there
+  pub withheld : hasApplications (p .revision) ≡ false → p .released .applications .setting ≡ settingOf Applications switchedOff []
+
+-- 02, E5: what is released of a feature is its present sub-TLV, but for a change that waits for SeqNo to be acknowledged.
+pub record InStep (p : Port) : Type 0 where
+  -- a feature that is not Syncd was released under the present SeqNo, or will be under the next
+  pub number : (f : Feature) → featureOf p f .syncd ≡ false → (featureOf p f .sequence ≡ p .control .seq) ⊎ (featureOf p f .sequence ≡ next (p .control .seq))
+  -- one that is Syncd never waits, nor does one that was released under the present SeqNo
+  pub synced : (f : Feature) → featureOf p f .syncd ≡ true → releasedTlv p f ≡ subTlv f (featureOf p f)
+  pub asked : (f : Feature) → featureOf p f .sequence ≡ p .control .seq → releasedTlv p f ≡ subTlv f (featureOf p f)
+  -- the send rule is done: where SeqNo is acknowledged, each feature is Syncd
+  pub done : running p ≡ true → p .control .rcvd ≡ p .control .seq → (f : Feature) → featureOf p f .syncd ≡ true

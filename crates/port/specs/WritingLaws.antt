@@ -2,7 +2,7 @@
 -- which a test leaves them. Assumes nothing.
 use Prim.Native.Nat.{ℕ, _+_, _-_, _/_, _<_, _≤_, _^_}
 use mathlib.Core.Path.{_≡_, _∙_, refl, sym, ap, ap₂}
-use mathlib.Core.Bool.{Bool, true, false, not, _||_, Bool·beq, false≢true}
+use mathlib.Core.Bool.{Bool, true, false, not, Bool·beq, false≢true}
 use mathlib.Core.List.{List, [], _∷_, _++_}
 use native.Mathlib.Omega.{arith}
 use native.Mathlib.Nat.{zero-add}
@@ -18,40 +18,37 @@ use Rattle.parameters.specs.declared.Feature.{Feature}
 use Rattle.parameters.specs.declared.Feature.the-variants.{Groups, Flow, Applications}
 use Rattle.parameters.specs.Parameters.{featureNumber, content, validGroups, validFlow, valid, ours}
 use Rattle.parameters.specs.FeatureLaws.{ours-length}
-use Rattle.feature.specs.declared.State.{State}
-use Rattle.feature.specs.State.{value, subTlv, changed}
+use Rattle.feature.specs.declared.Release.{Release}
+use Rattle.feature.specs.State.{next, value, releaseTlv, differing}
 use Rattle.feature.specs.StateLaws.{Sized, changed-not}
 use Rattle.port.specs.declared.Control.{Control}
 use Rattle.port.specs.declared.Port.{Port}
 use Rattle.port.specs.declared.Written.the-variants.{Octets, Refused}
 use Rattle.port.specs.Parts.{featureOf, running}
-use Rattle.port.specs.Writing.{controlValue, subTlvs, frame, toWrite, asks, written, output, Wrote}
-use Rattle.port.specs.Sound.{SoundState, SoundPort}
+use Rattle.port.specs.Writing.{controlValue, releasedTlv, subTlvs, frame, toWrite, asks, written, output, Wrote}
+use Rattle.port.specs.Sound.{SoundSetting, SoundPort}
 
 -- ---- the parts of a frame
 
 abbrev pub controlTlv : Control → List ℕ
 controlTlv c = head 1 10 ++ controlValue c
 
-abbrev pub tlvOf : Port → Feature → List ℕ
-tlvOf p f = subTlv f (featureOf p f)
-
 abbrev pub featureTlvs : Port → List ℕ
-featureTlvs p = tlvOf p Groups ++ (tlvOf p Flow ++ tlvOf p Applications)
+featureTlvs p = releasedTlv p Groups ++ (releasedTlv p Flow ++ releasedTlv p Applications)
 
 -- ---- promises
 
 -- the number of a frame's octets: 18, and three sub-TLVs of at most 102
 pub record FrameLength (p : Port) (n : ℕ) : Type 0 where
   pub is : n ≡ length (frame p)
-  pub parts : n ≡ 18 + length (tlvOf p Groups) + length (tlvOf p Flow) + length (tlvOf p Applications)
+  pub parts : n ≡ 18 + length (releasedTlv p Groups) + length (releasedTlv p Flow) + length (releasedTlv p Applications)
   pub small : n ≤ 324
 
 -- whether a feature's sub-TLVs differ, each of at most 102 octets
-pub record Differs (f : Feature) (x y : State) (r : Bool) : Type 0 where
-  pub is : r ≡ changed f x y
-  pub before : length (subTlv f x) ≤ 102
-  pub after : length (subTlv f y) ≤ 102
+pub record Differs (f : Feature) (m : ℕ) (x : Release) (n : ℕ) (y : Release) (r : Bool) : Type 0 where
+  pub is : r ≡ differing f m x n y
+  pub before : length (releaseTlv f m x) ≤ 102
+  pub after : length (releaseTlv f n y) ≤ 102
 
 -- ---- running
 
@@ -68,11 +65,11 @@ module _ (p : Port) where
 
 -- ---- writing
 
-length-frame : (p : Port) → length (frame p) ≡ 18 + length (tlvOf p Groups) + length (tlvOf p Flow) + length (tlvOf p Applications)
+length-frame : (p : Port) → length (frame p) ≡ 18 + length (releasedTlv p Groups) + length (releasedTlv p Flow) + length (releasedTlv p Applications)
 unfolding frame subTlvs
 length-frame p = simp length-append (omega arith)
 
-pub length-of : (p : Port) {a b c : ℕ} → Sized Groups (p .groups) a → Sized Flow (p .flow) b → Sized Applications (p .applications) c
+pub length-of : (p : Port) {a b c : ℕ} → Sized Groups (p .groups .max) (p .released .groups) a → Sized Flow (p .flow .max) (p .released .flow) b → Sized Applications (p .applications .max) (p .released .applications) c
     → FrameLength p (18 + a + b + c)
 length-of p x y z =
     let l = length-frame p in
@@ -83,8 +80,8 @@ pub control-put : (c : Control) (out : List ℕ) {a b d : List ℕ} → a ≡ se
 control-put c out ea eb ed = ed ∙ rw (eb, ea) refl
 
 module _ (p : Port) (out : List ℕ) {a b c : List ℕ} where
-  pub features-put : {m n : ℕ} → Sized Groups (p .groups) m → Sized Flow (p .flow) n → a ≡ sets out 18 (tlvOf p Groups)
-      → b ≡ sets a (18 + m) (tlvOf p Flow) → c ≡ sets b (18 + m + n) (tlvOf p Applications) → c ≡ sets out 18 (featureTlvs p)
+  pub features-put : {m n : ℕ} → Sized Groups (p .groups .max) (p .released .groups) m → Sized Flow (p .flow .max) (p .released .flow) n → a ≡ sets out 18 (releasedTlv p Groups)
+      → b ≡ sets a (18 + m) (releasedTlv p Flow) → c ≡ sets b (18 + m + n) (releasedTlv p Applications) → c ≡ sets out 18 (featureTlvs p)
   features-put x y ea eb ec = ec ∙ rw (eb, ea, x .is, y .is) (sym (simp sets-append))
 
   pub frame-put : {n : ℕ} → FrameLength p n → a ≡ sets out 0 (frameHead (n - 6)) → b ≡ sets a 6 (controlTlv (p .control))
@@ -142,26 +139,30 @@ module _ (a b : Control) where
   pub controls-ack : a .ack < 2 ^ 32 → b .ack < 2 ^ 32 → (a .ack ≡ b .ack → ⊥) → false ≡ same (controlValue a) (controlValue b)
   controls-ack h k n = sym (distinct _ _ (λ e. n (octets4-same (a .ack) (b .ack) h k (ap (λ (o : List ℕ). drop 6 o) e))))
 
+  -- a SeqNo that goes up shows in its last octet
+  pub controls-raised : b .seq ≡ next (a .seq) → same (controlValue a) (controlValue b) ≡ false
+  controls-raised e = distinct _ _ (λ d. let z : at (controlValue a) 5 ≡ at (controlValue b) 5 = ap (λ (o : List ℕ). at o 5) d in omega (arith, e))
+
   pub controls-same : a .oper ≡ b .oper → a .max ≡ b .max → a .seq ≡ b .seq → a .ack ≡ b .ack → true ≡ same (controlValue a) (controlValue b)
   controls-same o m s k = rw (o, m, s, k) (sym (same-refl (controlValue b)))
 
--- ---- two states of a feature
+-- ---- two releases of a feature
 
-module _ (f : Feature) (x y : State) {m n : ℕ} (h : Sized f x m) (k : Sized f y n) where
-  pub differs-octets : {r : Bool} → r ≡ changed f x y → Differs f x y r
+module _ (f : Feature) (m : ℕ) (x : Release) (n : ℕ) (y : Release) {i j : ℕ} (h : Sized f m x i) (k : Sized f n y j) where
+  pub differs-octets : {r : Bool} → r ≡ differing f m x n y → Differs f m x n y r
   differs-octets e = record { is = e; before = omega (arith, h .is, h .small); after = omega (arith, k .is, k .small) }
 
-  pub differs-length : (m ≡ n → ⊥) → Differs f x y true
-  unfolding changed
-  differs-length e = differs-octets (ap not (unlike (subTlv f x) (subTlv f y) (λ l. e (h .is ∙ l ∙ sym (k .is)))))
+  pub differs-length : (i ≡ j → ⊥) → Differs f m x n y true
+  unfolding differing
+  differs-length e = differs-octets (ap not (unlike (releaseTlv f m x) (releaseTlv f n y) (λ l. e (h .is ∙ l ∙ sym (k .is)))))
 
-module _ {f : Feature} {x y : State} {r : Bool} (d : Differs f x y r) where
-  unlike-is : r ≡ true → subTlv f x ≡ subTlv f y → ⊥
-  unlike-is t e = false≢true (changed-not f x y e ∙ sym (d .is) ∙ t)
+module _ {f : Feature} {m n : ℕ} {x y : Release} {r : Bool} (d : Differs f m x n y r) where
+  unlike-is : r ≡ true → releaseTlv f m x ≡ releaseTlv f n y → ⊥
+  unlike-is t e = false≢true (changed-not f m n x y e ∙ sym (d .is) ∙ t)
 
-  alike-is : r ≡ false → subTlv f x ≡ subTlv f y
-  unfolding changed
-  alike-is t = same-is (subTlv f x) (subTlv f y) (not-false (same (subTlv f x) (subTlv f y)) (sym (d .is) ∙ t))
+  alike-is : r ≡ false → releaseTlv f m x ≡ releaseTlv f n y
+  unfolding differing
+  alike-is t = same-is (releaseTlv f m x) (releaseTlv f n y) (not-false (same (releaseTlv f m x) (releaseTlv f n y)) (sym (d .is) ∙ t))
 
 -- ---- two runs of sub-TLVs
 
@@ -177,34 +178,34 @@ abbrev Other : Feature → List ℕ → Type 0
 Other f o = at o 0 / 2 ≡ featureNumber f → ⊥
 
 -- a short sub-TLV, or none, before such octets: its type says whether it is there, and its head how long it is
-first-same : (f : Feature) (x y : State) (r s : List ℕ) → length (subTlv f x) ≤ 102 → length (subTlv f y) ≤ 102 → Other f r → Other f s
-    → subTlv f x ++ r ≡ subTlv f y ++ s → subTlv f x ≡ subTlv f y
-unfolding subTlv
-first-same f x y r s hx hy nr ns = here (x .setting .advertise) (y .setting .advertise) hx hy
+first-same : (f : Feature) (m n : ℕ) (x y : Release) (r s : List ℕ) → length (releaseTlv f m x) ≤ 102 → length (releaseTlv f n y) ≤ 102 → Other f r → Other f s
+    → releaseTlv f m x ++ r ≡ releaseTlv f n y ++ s → releaseTlv f m x ≡ releaseTlv f n y
+unfolding releaseTlv
+first-same f m n x y r s hx hy nr ns = here (x .setting .advertise) (y .setting .advertise) hx hy
   where
-    own : State → Bool → List ℕ
-    own z a = if a then headed (featureNumber f) (value z) else []
+    own : ℕ → Release → Bool → List ℕ
+    own k z a = if a then headed (featureNumber f) (value k z) else []
 
-    here : (a b : Bool) → length (own x a) ≤ 102 → length (own y b) ≤ 102 → own x a ++ r ≡ own y b ++ s → own x a ≡ own y b
+    here : (a b : Bool) → length (own m x a) ≤ 102 → length (own n y b) ≤ 102 → own m x a ++ r ≡ own n y b ++ s → own m x a ≡ own n y b
     here true true h k e =
-        append-left (own x true) (own y true) r s (omega (arith, ap (λ (o : List ℕ). at o 0) e, ap (λ (o : List ℕ). at o 1) e)) e
+        append-left (own m x true) (own n y true) r s (omega (arith, ap (λ (o : List ℕ). at o 0) e, ap (λ (o : List ℕ). at o 1) e)) e
     here true false h k e = absurd (ns (omega (arith, ap (λ (o : List ℕ). at o 0) e)))
     here false true h k e = absurd (nr (omega (arith, ap (λ (o : List ℕ). at o 0) e)))
     here false false h k e = refl
 
-behind-flow : (y : State) → Other Flow (subTlv Applications y)
-unfolding subTlv featureNumber
-behind-flow y = here (y .setting .advertise)
+behind-flow : (n : ℕ) (y : Release) → Other Flow (releaseTlv Applications n y)
+unfolding releaseTlv featureNumber
+behind-flow n y = here (y .setting .advertise)
   where
-    here : (b : Bool) → at (if b then headed 4 (value y) else []) 0 / 2 ≡ 3 → ⊥
+    here : (b : Bool) → at (if b then headed 4 (value n y) else []) 0 / 2 ≡ 3 → ⊥
     here true e = omega arith
     here false e = omega arith
 
-behind-groups : (x y : State) → Other Groups (subTlv Flow x ++ subTlv Applications y)
-unfolding subTlv featureNumber
-behind-groups x y = here (x .setting .advertise) (y .setting .advertise)
+behind-groups : (m : ℕ) (x : Release) (n : ℕ) (y : Release) → Other Groups (releaseTlv Flow m x ++ releaseTlv Applications n y)
+unfolding releaseTlv featureNumber
+behind-groups m x n y = here (x .setting .advertise) (y .setting .advertise)
   where
-    here : (a b : Bool) → at ((if a then headed 3 (value x) else []) ++ (if b then headed 4 (value y) else [])) 0 / 2 ≡ 2 → ⊥
+    here : (a b : Bool) → at ((if a then headed 3 (value m x) else []) ++ (if b then headed 4 (value n y) else [])) 0 / 2 ≡ 2 → ⊥
     here true b e = omega arith
     here false true e = omega arith
     here false false e = omega arith
@@ -226,18 +227,18 @@ module _ (p q : Port) where
     unfolding frame subTlvs
     features-of = ap (λ (o : List ℕ). drop 18 o) e
 
-    groups-of : length (tlvOf p Groups) ≤ 102 → length (tlvOf q Groups) ≤ 102 → tlvOf p Groups ≡ tlvOf q Groups
-    groups-of h k = first-same Groups (p .groups) (q .groups) _ _ h k (behind-groups (p .flow) (p .applications)) (behind-groups (q .flow) (q .applications)) features-of
+    groups-of : length (releasedTlv p Groups) ≤ 102 → length (releasedTlv q Groups) ≤ 102 → releasedTlv p Groups ≡ releasedTlv q Groups
+    groups-of h k = first-same Groups (p .groups .max) (q .groups .max) (p .released .groups) (q .released .groups) _ _ h k (behind-groups (p .flow .max) (p .released .flow) (p .applications .max) (p .released .applications)) (behind-groups (q .flow .max) (q .released .flow) (q .applications .max) (q .released .applications)) features-of
 
-    module _ (g : tlvOf p Groups ≡ tlvOf q Groups) where
-      rest-of : tlvOf p Flow ++ tlvOf p Applications ≡ tlvOf q Flow ++ tlvOf q Applications
-      rest-of = append-right (tlvOf p Groups) (tlvOf q Groups) _ _ (ap length g) features-of
+    module _ (g : releasedTlv p Groups ≡ releasedTlv q Groups) where
+      rest-of : releasedTlv p Flow ++ releasedTlv p Applications ≡ releasedTlv q Flow ++ releasedTlv q Applications
+      rest-of = append-right (releasedTlv p Groups) (releasedTlv q Groups) _ _ (ap length g) features-of
 
-      flow-of : length (tlvOf p Flow) ≤ 102 → length (tlvOf q Flow) ≤ 102 → tlvOf p Flow ≡ tlvOf q Flow
-      flow-of h k = first-same Flow (p .flow) (q .flow) _ _ h k (behind-flow (p .applications)) (behind-flow (q .applications)) rest-of
+      flow-of : length (releasedTlv p Flow) ≤ 102 → length (releasedTlv q Flow) ≤ 102 → releasedTlv p Flow ≡ releasedTlv q Flow
+      flow-of h k = first-same Flow (p .flow .max) (q .flow .max) (p .released .flow) (q .released .flow) _ _ h k (behind-flow (p .applications .max) (p .released .applications)) (behind-flow (q .applications .max) (q .released .applications)) rest-of
 
-      applications-of : tlvOf p Flow ≡ tlvOf q Flow → tlvOf p Applications ≡ tlvOf q Applications
-      applications-of w = append-right (tlvOf p Flow) (tlvOf q Flow) _ _ (ap length w) rest-of
+      applications-of : releasedTlv p Flow ≡ releasedTlv q Flow → releasedTlv p Applications ≡ releasedTlv q Applications
+      applications-of w = append-right (releasedTlv p Flow) (releasedTlv q Flow) _ _ (ap length w) rest-of
 
   differ : (frame p ≡ frame q → ⊥) → true ≡ not (same (frame p) (frame q))
   differ n = ap not (sym (distinct (frame p) (frame q) n))
@@ -245,16 +246,16 @@ module _ (p q : Port) where
   pub frames-control : {s : Bool} → s ≡ same (controlValue (p .control)) (controlValue (q .control)) → not s ≡ true → true ≡ not (same (frame p) (frame q))
   frames-control {s} c t = differ (λ e. false≢true (sym (not-true s t) ∙ c ∙ rw (control-of e) (same-refl (controlValue (q .control)))))
 
-  module _ {g : Bool} (dg : Differs Groups (p .groups) (q .groups) g) where
+  module _ {g : Bool} (dg : Differs Groups (p .groups .max) (p .released .groups) (q .groups .max) (q .released .groups) g) where
     pub frames-groups : g ≡ true → true ≡ not (same (frame p) (frame q))
     frames-groups t = differ (λ e. unlike-is dg t (groups-of e (dg .before) (dg .after)))
 
-    module _ (tg : g ≡ false) {w : Bool} (dw : Differs Flow (p .flow) (q .flow) w) where
+    module _ (tg : g ≡ false) {w : Bool} (dw : Differs Flow (p .flow .max) (p .released .flow) (q .flow .max) (q .released .flow) w) where
       pub frames-flow : w ≡ true → true ≡ not (same (frame p) (frame q))
       frames-flow t = differ (λ e. unlike-is dw t (flow-of e (alike-is dg tg) (dw .before) (dw .after)))
 
       pub frames-applications : {s a : Bool} → s ≡ same (controlValue (p .control)) (controlValue (q .control)) → not s ≡ false → w ≡ false
-          → Differs Applications (p .applications) (q .applications) a → a ≡ not (same (frame p) (frame q))
+          → Differs Applications (p .applications .max) (p .released .applications) (q .applications .max) (q .released .applications) a → a ≡ not (same (frame p) (frame q))
       frames-applications {s} {a} c t tw da = here a refl
         where
           here : (b : Bool) → a ≡ b → b ≡ not (same (frame p) (frame q))
@@ -294,44 +295,21 @@ module _ (p q : Port) {a b : Bool} (ea : a ≡ running p) (eb : b ≡ running q)
     unfolding asks toWrite
     asks-running u e = let f : a ≡ true = not-false a u in e ∙ simp (sym ea ∙ f, sym eb ∙ sym (alike a b t) ∙ f)
 
--- two running ports with sub-TLVs of the same lengths, by the parts of their frames
-module _ (p q : Port) (lg : length (tlvOf p Groups) ≡ length (tlvOf q Groups)) (lw : length (tlvOf p Flow) ≡ length (tlvOf q Flow)) where
-  unlike-part : (f : Feature) (x y : State) → true ≡ changed f x y → subTlv f x ≡ subTlv f y → ⊥
-  unlike-part f x y t e = false≢true (changed-not f x y e ∙ sym t)
+-- two running ports that have released the same, by their controls
+pub asks-control : (p q : Port) → running p ≡ true → running q ≡ true → ((f : Feature) → featureOf q f .max ≡ featureOf p f .max) → q .released ≡ p .released
+    → {s : Bool} → s ≡ same (controlValue (p .control)) (controlValue (q .control)) → not s ≡ asks p q
+asks-control p q h k m e {s} c = asks-running p q (sym h) (sym k) refl refl (by s refl)
+  where
+    tlvs : featureTlvs p ≡ featureTlvs q
+    tlvs = λ i. releaseTlv Groups (sym (m Groups) i) (sym e i .groups) ++ (releaseTlv Flow (sym (m Flow) i) (sym e i .flow) ++ releaseTlv Applications (sym (m Applications) i) (sym e i .applications))
 
-  alike-part : (f : Feature) (x y : State) → false ≡ changed f x y → subTlv f x ≡ subTlv f y
-  unfolding changed
-  alike-part f x y t = same-is (subTlv f x) (subTlv f y) (not-false (same (subTlv f x) (subTlv f y)) (sym t))
+    by : (b : Bool) → s ≡ b → not b ≡ not (same (frame p) (frame q))
+    by false t = frames-control p q c (ap not t)
+    by true t = let w : frame p ≡ frame q = frame-of p q (same-is _ _ (sym c ∙ t)) tlvs in rw w (ap not (sym (same-refl (frame q))))
 
-  module _ (e : frame p ≡ frame q) where
-    part-groups : tlvOf p Groups ≡ tlvOf q Groups
-    part-groups = append-left (tlvOf p Groups) (tlvOf q Groups) _ _ lg (features-of p q e)
-
-    part-rest : tlvOf p Flow ++ tlvOf p Applications ≡ tlvOf q Flow ++ tlvOf q Applications
-    part-rest = append-right (tlvOf p Groups) (tlvOf q Groups) _ _ lg (features-of p q e)
-
-    part-flow : tlvOf p Flow ≡ tlvOf q Flow
-    part-flow = append-left (tlvOf p Flow) (tlvOf q Flow) _ _ lw part-rest
-
-    part-applications : tlvOf p Applications ≡ tlvOf q Applications
-    part-applications = append-right (tlvOf p Flow) (tlvOf q Flow) _ _ lw part-rest
-
-  frames-parts : (s g w a : Bool) → s ≡ same (controlValue (p .control)) (controlValue (q .control)) → g ≡ changed Groups (p .groups) (q .groups)
-      → w ≡ changed Flow (p .flow) (q .flow) → a ≡ changed Applications (p .applications) (q .applications)
-      → (not s || ((g || w) || a)) ≡ not (same (frame p) (frame q))
-  frames-parts false g w a c eg ew ea = frames-control p q c refl
-  frames-parts true true w a c eg ew ea = differ p q (λ e. unlike-part Groups (p .groups) (q .groups) eg (part-groups e))
-  frames-parts true false true a c eg ew ea = differ p q (λ e. unlike-part Flow (p .flow) (q .flow) ew (part-flow e))
-  frames-parts true false false true c eg ew ea = differ p q (λ e. unlike-part Applications (p .applications) (q .applications) ea (part-applications e))
-  frames-parts true false false false c eg ew ea =
-      let control : controlValue (p .control) ≡ controlValue (q .control) = same-is _ _ (sym c) in
-      let h : frame p ≡ frame q = frame-of p q control (λ i. alike-part Groups (p .groups) (q .groups) eg i ++ (alike-part Flow (p .flow) (q .flow) ew i ++ alike-part Applications (p .applications) (q .applications) ea i)) in
-      rw h (ap not (sym (same-refl (frame q))))
-
-  pub asks-parts : running p ≡ true → running q ≡ true → {s g w a : Bool} → s ≡ same (controlValue (p .control)) (controlValue (q .control))
-      → g ≡ changed Groups (p .groups) (q .groups) → w ≡ changed Flow (p .flow) (q .flow) → a ≡ changed Applications (p .applications) (q .applications)
-      → (not s || ((g || w) || a)) ≡ asks p q
-  asks-parts h k {s} {g} {w} {a} c eg ew ea = asks-running p q (sym h) (sym k) refl refl (frames-parts s g w a c eg ew ea)
+-- whatever they have released, if their controls differ
+pub asks-raised : (p q : Port) → running p ≡ true → running q ≡ true → {s : Bool} → s ≡ same (controlValue (p .control)) (controlValue (q .control)) → s ≡ false → true ≡ asks p q
+asks-raised p q h k c t = asks-running p q (sym h) (sym k) refl refl (frames-control p q c (ap not t))
 
 -- ---- 01, Writing: "Longest frame 147 octets"
 
@@ -347,17 +325,17 @@ valid-length Groups o e k = let h : length o ≡ 13 = eqb-true (length o) 13 (an
 valid-length Flow o e k = let h : length o ≡ 2 = eqb-true (length o) 2 (and-left _ _ e) in omega arith
 valid-length Applications o e k = rw k at (ours-length Applications o e)
 
-sub-tlv-longest : (f : Feature) (x : State) → SoundState f x → length (subTlv f x) ≤ 6 + most f
-unfolding subTlv
-sub-tlv-longest f x s = here (x .setting .advertise) (valid-length f (content (x .setting .desired)) (s .setting .desired .valid) (s .setting .desired .own))
+sub-tlv-longest : (f : Feature) (max : ℕ) (x : Release) → SoundSetting f (x .setting) → length (releaseTlv f max x) ≤ 6 + most f
+unfolding releaseTlv
+sub-tlv-longest f max x s = here (x .setting .advertise) (valid-length f (content (x .setting .desired)) (s .desired .valid) (s .desired .own))
   where
-    here : (a : Bool) → length (content (x .setting .desired)) ≤ most f → length (if a then headed (featureNumber f) (value x) else []) ≤ 6 + most f
+    here : (a : Bool) → length (content (x .setting .desired)) ≤ most f → length (if a then headed (featureNumber f) (value max x) else []) ≤ 6 + most f
     here true h = omega arith
     here false h = omega arith
 
 pub frame-longest : (p : Port) → SoundPort p → length (frame p) ≤ 147
 frame-longest p s =
-    let g = sub-tlv-longest Groups (p .groups) (s .features Groups) in
-    let w = sub-tlv-longest Flow (p .flow) (s .features Flow) in
-    let a = sub-tlv-longest Applications (p .applications) (s .features Applications) in
+    let g = sub-tlv-longest Groups (p .groups .max) (p .released .groups) (s .released Groups .setting) in
+    let w = sub-tlv-longest Flow (p .flow .max) (p .released .flow) (s .released Flow .setting) in
+    let a = sub-tlv-longest Applications (p .applications .max) (p .released .applications) (s .released Applications .setting) in
     omega (arith, length-frame p)

@@ -1,11 +1,11 @@
-// One port: a pure machine over frames, settings and flags. An event gives the answer, the next port and the notices it raises;
-// a frame is decided first and applied then, since a port is long to copy.
+// One port by its parts, and what an event gives: the answer, the next port and the notices it raises. Events are crates `events` and,
+// of frames, `handling`.
+use feature::Release;
 use feature::State;
 use notices::Kind;
 use tlv::Refusal;
 use tlv::Revision;
 
-pub mod events;
 pub mod writing;
 
 // The four flags of a port.
@@ -40,6 +40,14 @@ pub struct Port {
     pub groups: State,
     pub flow: State,
     pub applications: State,
+    pub released: Released,
+}
+
+// What was last released of each feature, which is what frames carry (02, E5).
+pub struct Released {
+    pub groups: Release,
+    pub flow: Release,
+    pub applications: Release,
 }
 
 // The revision and the highest versions, fixed at creation.

@@ -8,12 +8,12 @@ ghost use lib.Seq.{sets};
 ghost use Rattle.octets.specs.Octets.{same};
 ghost use Rattle.parameters.specs.declared.Feature.the-variants.{Groups, Flow, Applications};
 ghost use Rattle.port.specs.Parts.{running};
-ghost use Rattle.port.specs.Writing.{controlValue, frame, asks, Wrote};
-ghost use Rattle.port.specs.WritingLaws.{FrameLength, Differs, controlTlv, tlvOf, featureTlvs};
+ghost use Rattle.port.specs.Writing.{controlValue, releasedTlv, frame, asks, Wrote};
+ghost use Rattle.port.specs.WritingLaws.{FrameLength, Differs, controlTlv, featureTlvs};
 use crate::Control;
 use crate::Port;
 use crate::Written;
-use feature::State;
+use feature::Release;
 use parameters::Feature;
 use tlv::Refusal;
 
@@ -39,9 +39,14 @@ pub fn running(p: Port) -> bool
 pub fn frame_length(p: Port) -> usize
     ensures { λ r. ⌜ FrameLength p r ⌝ }
 {
-    let groups = feature::steps::sub_tlv_length(Feature::Groups, p.groups);
-    let flow = feature::steps::sub_tlv_length(Feature::Flow, p.flow);
-    let applications = feature::steps::sub_tlv_length(Feature::Applications, p.applications);
+    let r = p.released;
+    let groups = feature::steps::sub_tlv_length(Feature::Groups, p.groups.max, r.groups);
+    let flow = feature::steps::sub_tlv_length(Feature::Flow, p.flow.max, r.flow);
+    let applications = feature::steps::sub_tlv_length(
+        Feature::Applications,
+        p.applications.max,
+        r.applications,
+    );
     FEATURES + groups + flow + applications
 }
 
@@ -66,18 +71,23 @@ fn put_control(out: &mut [u8], c: Control)
     octets::numbers::put4(out, 14, c.ack);
 }
 
-// Writes the sub-TLVs of the advertised features, in ascending type.
+// Writes the sub-TLVs that were last released, in ascending type.
 fn put_features(p: Port, out: &mut [u8])
-    requires { ⌜ 18 + length (tlvOf p Groups) + length (tlvOf p Flow) + length (tlvOf p Applications) ≤ length (now out) ⌝ }
+    requires { ⌜ 18 + length (releasedTlv p Groups) + length (releasedTlv p Flow) + length (releasedTlv p Applications) ≤ length (now out) ⌝ }
     ensures { λ _. ⌜ now (out .exit) ≡ sets (now (out .entry)) 18 (featureTlvs p) ⌝ }
 {
-    let groups = p.groups;
-    let flow = p.flow;
-    let second = FEATURES + feature::steps::sub_tlv_length(Feature::Groups, groups);
-    let third = second + feature::steps::sub_tlv_length(Feature::Flow, flow);
-    feature::steps::put_sub_tlv(out, FEATURES, Feature::Groups, groups);
-    feature::steps::put_sub_tlv(out, second, Feature::Flow, flow);
-    feature::steps::put_sub_tlv(out, third, Feature::Applications, p.applications);
+    let r = p.released;
+    let second = FEATURES + feature::steps::sub_tlv_length(Feature::Groups, p.groups.max, r.groups);
+    let third = second + feature::steps::sub_tlv_length(Feature::Flow, p.flow.max, r.flow);
+    feature::steps::put_sub_tlv(out, FEATURES, Feature::Groups, p.groups.max, r.groups);
+    feature::steps::put_sub_tlv(out, second, Feature::Flow, p.flow.max, r.flow);
+    feature::steps::put_sub_tlv(
+        out,
+        third,
+        Feature::Applications,
+        p.applications.max,
+        r.applications,
+    );
 }
 
 // Writes the frame, where the caller has room for it.
@@ -126,13 +136,13 @@ pub fn same_control(a: Control, b: Control) -> bool
 }
 
 // Whether a feature's sub-TLVs differ, in length or in an octet. Each is short.
-fn differs(f: Feature, before: State, after: State) -> bool
-    ensures { λ r. ⌜ Differs f before after r ⌝ }
+fn differs(f: Feature, m: u8, before: Release, n: u8, after: Release) -> bool
+    ensures { λ r. ⌜ Differs f m before n after r ⌝ }
 {
-    if feature::steps::sub_tlv_length(f, before) != feature::steps::sub_tlv_length(f, after) {
+    if feature::steps::sub_tlv_length(f, m, before) != feature::steps::sub_tlv_length(f, n, after) {
         return true;
     }
-    feature::steps::differs(f, before, after)
+    feature::steps::differs(f, m, before, n, after)
 }
 
 // Whether two frames differ; neither is written.
@@ -142,16 +152,32 @@ fn frames_differ(before: Port, after: Port) -> bool
     if !same_control(before.control, after.control) {
         return true;
     }
-    if differs(Feature::Groups, before.groups, after.groups) {
+    let r = before.released;
+    let s = after.released;
+    if differs(
+        Feature::Groups,
+        before.groups.max,
+        r.groups,
+        after.groups.max,
+        s.groups,
+    ) {
         return true;
     }
-    if differs(Feature::Flow, before.flow, after.flow) {
+    if differs(
+        Feature::Flow,
+        before.flow.max,
+        r.flow,
+        after.flow.max,
+        s.flow,
+    ) {
         return true;
     }
     differs(
         Feature::Applications,
-        before.applications,
-        after.applications,
+        before.applications.max,
+        r.applications,
+        after.applications.max,
+        s.applications,
     )
 }
 

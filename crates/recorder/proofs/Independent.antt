@@ -1,5 +1,5 @@
 -- A call at one port leaves the others, and what happens at a port is decided by that port alone. Assumes nothing.
-use Prim.Native.Nat.{ℕ, _-_, _<_, _≤_}
+use Prim.Native.Nat.{ℕ, _-_, _<_}
 use native.Mathlib.Omega.{arith}
 use mathlib.Core.Path.{_≡_, refl, sym, ap, _∙_}
 use mathlib.Core.Bool.{Bool, true, false, _&&_, false≢true}
@@ -8,14 +8,12 @@ use lib.ListN.{length, getD, set, length-set, replicate, getD-replicate}
 use lib.Seq.{getD-set-same, getD-set-other}
 use borrow.Author.Tests.{eqb-true, eqb-false}
 use Rattle.octets.specs.Words.{if_then_else_, _is_}
-use Rattle.tlv.specs.Refusals.{Reply}
-use Rattle.tlv.specs.declared.Refusal.the-variants.{NoPort}
 use Rattle.notices.specs.Notices.{isPort}
 use Rattle.notices.specs.Notices as numbers
 use Rattle.notices.specs.PortLaws.{is-port, port-is}
 use Rattle.port.specs.declared.Port.{Port}
 use Rattle.port.specs.declared.Event.{Event}
-use Rattle.port.specs.PortEvents.{blankPort, refused, silent}
+use Rattle.events.specs.PortEvents.{blankPort, silent}
 use Rattle.recorder.specs.declared.Recorder.{Recorder}
 use Rattle.recorder.specs.Recorder.{placeOf, portAt, blank, changed, created, kept, stored}
 use Rattle.recorder.specs.Calls.{Operation, create, frame, gone, flag, setting, write, take, Call, eventOf, afterAt, after, afterAll, lentAt, replyAt}

@@ -1,33 +1,31 @@
 -- The log over any list of calls from the blank recorder on. Assumes nothing.
-use Prim.Native.Nat.{ℕ, _+_, _-_, _≤_, min}
+use Prim.Native.Nat.{ℕ, _+_}
 use native.Mathlib.Omega.{arith}
 use mathlib.Core.Path.{_≡_, refl, sym, ap, _∙_}
 use mathlib.Core.Bool.{Bool, true, false, not, _&&_, false≢true}
 use mathlib.Core.List.{List, [], _∷_, _++_, map, append-nil}
-use lib.ListN.{length, set}
-use borrow.Author.Tests.{eq-eqb, ne-eqb, eqb-true, eqb-false, not-true}
+use lib.ListN.{set}
+use borrow.Author.Tests.{ne-eqb, eqb-true, eqb-false, not-true}
 use Rattle.octets.specs.Words.{if_then_else_, _is_}
 use Rattle.octets.specs.Laws.{and-left, and-right}
-use Rattle.tlv.specs.declared.Refusal.the-variants.{NoPort, NoNotice}
 use Rattle.tlv.specs.Refusals.{Reply, refusalNumber}
 use Rattle.notices.specs.declared.Notice.{Notice}
 use Rattle.notices.specs.declared.Log.{Log}
-use Rattle.notices.specs.Notices.{PortNumber, isPort, emptyLog, noticesIn, of, countOf, oldestOf, withoutOldest, loggedAll}
-use Rattle.notices.specs.PortLaws.{of-append, port-is}
-use Rattle.notices.specs.LogModel.{Sound, Step, portOf, logSteps, modelSteps, writes, takesOne, losses, others, untaken, newest16}
+use Rattle.notices.specs.Notices.{PortNumber, isPort, emptyLog, noticesIn, of, countOf, withoutOldest, loggedAll}
+use Rattle.notices.specs.LogModel.{Sound, Step, portOf, logSteps, modelSteps, writes, takesOne, others, untaken, newest16}
 use Rattle.notices.specs.LogModel as log
 use Rattle.notices.specs.LogLaws.{empty-sound, empty-holds, steps-hold, steps-sound, others-leave, log-append, writes-append, takings-append, log-writes, writes-in, takings-none, shared-log}
 use Rattle.notices.specs.SharedLog as shared
 use Rattle.port.specs.declared.Raised.{Raised}
 use Rattle.port.specs.declared.Raised.the-variants as raised-is
 use Rattle.port.specs.declared.Notices.{Notices}
-use Rattle.port.specs.PortEvents.{listed, inOrder}
+use Rattle.events.specs.PortEvents.{listed, inOrder}
 use Rattle.recorder.specs.declared.Recorder.{Recorder}
 use Rattle.recorder.specs.declared.Taken.{Taken}
 use Rattle.recorder.specs.Recorder.{placeOf, portAt, blank, stored, taken}
 use Rattle.recorder.specs.Calls.{Operation, create, frame, gone, flag, setting, write, take, Call, eventOf, raisedAt, raised, afterAt, after, afterAll, tookReply, replyAt}
 use Rattle.recorder.specs.Independent.{takes, untakenAt}
-use Rattle.recorder.specs.Logged.{raisedAll, takesAt, takings, stepsOf, steps, lost, elsewhere, Accounted, Logged}
+use Rattle.recorder.specs.Logged.{raisedAll, takesAt, takings, stepsOf, steps, elsewhere, Accounted, Logged}
 use Rattle.recorder.proofs.Refusals.{took-by, write-quiet, take-quiet}
 use Rattle.recorder.proofs.Independent.{nowhere}
 

@@ -2,12 +2,11 @@
 -- mark was, and a refused one leaves the port. So refused calls may be left out of any list, but for marks and log. Assumes nothing.
 use Prim.Native.Nat.{ℕ}
 use mathlib.Core.Path.{_≡_, refl, sym, ap, _∙_}
-use mathlib.Core.Bool.{Bool, true, false, not, _&&_, Bool·beq}
+use mathlib.Core.Bool.{Bool, true, false, not, Bool·beq}
 use mathlib.Core.List.{List, [], _∷_}
 use lib.ListN.{length}
 use borrow.Author.Tests.{eqb-true, eqb-false}
 use Rattle.octets.specs.Words.{if_then_else_, _is_}
-use Rattle.tlv.specs.declared.Refusal.{Refusal}
 use Rattle.tlv.specs.declared.Refusal.the-variants.{NotRunning, SeveralNeighbours, InvalidSetting, UnknownFeature, NoPort}
 use Rattle.tlv.specs.declared.Reading.{Reading}
 use Rattle.tlv.specs.declared.Reading.the-variants.{Refused, Accepted}
@@ -15,6 +14,8 @@ use Rattle.tlv.specs.Revisions.{hasApplications, readFor}
 use Rattle.parameters.specs.declared.Feature.{Feature}
 use Rattle.parameters.specs.declared.Feature.the-variants.{Groups, Flow, Applications}
 use Rattle.parameters.specs.Parameters.{validLocal}
+use Rattle.feature.specs.declared.Setting.{Setting}
+use Rattle.feature.specs.declared.State.{State}
 use Rattle.feature.specs.declared.Switches.{Switches}
 use Rattle.feature.specs.State.{next, settingOf, sameSetting, reset}
 use Rattle.notices.specs.Notices.{PortNumber, isPort}
@@ -25,9 +26,9 @@ use Rattle.port.specs.declared.Port.{Port}
 use Rattle.port.specs.declared.Raised.{Raised}
 use Rattle.port.specs.declared.Raised.the-variants as raised
 use Rattle.port.specs.declared.Versions.{Versions}
-use Rattle.port.specs.Parts.{featureOf, withControl, some, withFlag, running}
-use Rattle.port.specs.PortEvents.{withSeq, unsynced, sent, freshPort, refused, unchanged, event, made, createdPort, settingsValid, restarts, flagNotice, flagSet, flagged, peerGone, step5, withFeature, settingChanged, setTo, changedFeature, changedApplications, changedSetting, versionsFor, switchesFor, parametersFor}
-use Rattle.port.specs.PortEvents as events
+use Rattle.port.specs.Parts.{withControl, release, withFlag, running}
+use Rattle.events.specs.PortEvents.{withSeq, raisesSeqNo, sent, freshPort, refused, unchanged, event, made, createdPort, settingsValid, restarts, flagNotice, flagSet, flagged, peerGone, step5, completed, withFeature, withSetting, settingChanged, setTo, changedFeature, changedApplications, changedSetting, versionsFor, switchesFor, parametersFor}
+use Rattle.events.specs.PortEvents as events
 use Rattle.handling.specs.Handling.{twice, exchanged, once, steps1to4, frameEvent, accepted, rejected, given, handled}
 use Rattle.recorder.specs.declared.Recorder.{Recorder}
 use Rattle.recorder.specs.Recorder.{portAt, happens, changed, created}
@@ -40,11 +41,11 @@ use Rattle.recorder.proofs.Independent.{four-after, own-after, other-af
 -- ---- one operation at one port
 
 sent-unmarked : (q : Port) → unmarked (sent q) ≡ unmarked (sent (unmarked q))
-unfolding sent
-sent-unmarked q = by (some (λ f. unsynced (featureOf q f)) && q .control .rcvd is q .control .seq)
+unfolding sent raisesSeqNo
+sent-unmarked q = by (raisesSeqNo q)
   where
-    by : (b : Bool) → unmarked (if b then withControl q (withSeq (q .control) (next (q .control .seq))) else q)
-        ≡ unmarked (if b then withControl (unmarked q) (withSeq (unmarked q .control) (next (q .control .seq))) else unmarked q)
+    by : (b : Bool) → unmarked (if b then release (withControl q (withSeq (q .control) (next (q .control .seq)))) else q)
+        ≡ unmarked (if b then release (withControl (unmarked q) (withSeq (unmarked q .control) (next (q .control .seq)))) else unmarked q)
     by true = refl
     by false = refl
 
@@ -55,13 +56,12 @@ either-flag true b x y p q f s t e d = e
 either-flag false true x y p q f s t e d = refl
 either-flag false false x y p q f s t e d = d
 
-either-setting : (a b c : Bool) (p q s t f : Port) → unmarked p ≡ unmarked q → unmarked s ≡ unmarked t
-    → unmarked ((if a then if b then unchanged p else event raised.Nothing p (if c then s else f) else refused InvalidSetting p) .port)
-    ≡ unmarked ((if a then if b then unchanged q else event raised.Nothing q (if c then t else f) else refused InvalidSetting q) .port)
-either-setting false b c p q s t f e d = e
-either-setting true true c p q s t f e d = e
-either-setting true false true p q s t f e d = d
-either-setting true false false p q s t f e d = refl
+either-setting : (a b : Bool) (p q s t : Port) → unmarked p ≡ unmarked q → unmarked s ≡ unmarked t
+    → unmarked ((if a then if b then unchanged p else event raised.Nothing p s else refused InvalidSetting p) .port)
+    ≡ unmarked ((if a then if b then unchanged q else event raised.Nothing q t else refused InvalidSetting q) .port)
+either-setting false b p q s t e d = e
+either-setting true true p q s t e d = e
+either-setting true false p q s t e d = d
 
 either-number : (a b c : Bool) (x y z x' y' z' : Event) (p q : Port) → unmarked (x .port) ≡ unmarked (x' .port) → unmarked (y .port) ≡ unmarked (y' .port)
     → unmarked (z .port) ≡ unmarked (z' .port) → unmarked p ≡ unmarked q
@@ -114,17 +114,38 @@ module _ (p : Port) where
       either-flag (Bool·beq (p .several) on) (restarts Several on p (withFlag p Several on)) (flagNotice Several on) (flagNotice Several on) p (unmarked p) (freshPort (withFlag p Several on))
       (withFlag p Several on) (withFlag (unmarked p) Several on) refl refl
 
+  set-unmarked : (f : Feature) (s : Setting) → unmarked (settingChanged f s p) ≡ unmarked (settingChanged f s (unmarked p))
+  unfolding settingChanged freshPort
+  set-unmarked Groups s = by (running p) (reset Groups (p .control .seq) s (p .groups)) (withSetting (p .groups) s)
+    where
+      by : (b : Bool) (x y : State) → unmarked (if b then completed p (withFeature p Groups x) else freshPort (withFeature p Groups y))
+          ≡ unmarked (if b then completed (unmarked p) (withFeature (unmarked p) Groups x) else freshPort (withFeature (unmarked p) Groups y))
+      by true x y = sent-unmarked (step5 p (withFeature p Groups x))
+      by false x y = refl
+  set-unmarked Flow s = by (running p) (reset Flow (p .control .seq) s (p .flow)) (withSetting (p .flow) s)
+    where
+      by : (b : Bool) (x y : State) → unmarked (if b then completed p (withFeature p Flow x) else freshPort (withFeature p Flow y))
+          ≡ unmarked (if b then completed (unmarked p) (withFeature (unmarked p) Flow x) else freshPort (withFeature (unmarked p) Flow y))
+      by true x y = sent-unmarked (step5 p (withFeature p Flow x))
+      by false x y = refl
+  set-unmarked Applications s = by (running p) (reset Applications (p .control .seq) s (p .applications)) (withSetting (p .applications) s)
+    where
+      by : (b : Bool) (x y : State) → unmarked (if b then completed p (withFeature p Applications x) else freshPort (withFeature p Applications y))
+          ≡ unmarked (if b then completed (unmarked p) (withFeature (unmarked p) Applications x) else freshPort (withFeature (unmarked p) Applications y))
+      by true x y = sent-unmarked (step5 p (withFeature p Applications x))
+      by false x y = refl
+
   feature-unmarked : (f : Feature) (w : Switches) (o : List ℕ) → unmarked (changedFeature f w o p .port) ≡ unmarked (changedFeature f w o (unmarked p) .port)
-  unfolding changedFeature setTo settingChanged freshPort
+  unfolding changedFeature setTo
   feature-unmarked Groups w o =
-      either-setting (validLocal Groups o) (sameSetting (p .groups .setting) (settingOf Groups w o)) (running p) p (unmarked p) _ _ _ refl
-      (sent-unmarked (step5 p (withFeature p Groups (reset Groups (p .control .seq) (settingOf Groups w o) (p .groups)))))
+      either-setting (validLocal Groups o) (sameSetting (p .groups .setting) (settingOf Groups w o)) p (unmarked p) (settingChanged Groups (settingOf Groups w o) p) (settingChanged Groups (settingOf Groups w o) (unmarked p))
+      refl (set-unmarked Groups (settingOf Groups w o))
   feature-unmarked Flow w o =
-      either-setting (validLocal Flow o) (sameSetting (p .flow .setting) (settingOf Flow w o)) (running p) p (unmarked p) _ _ _ refl
-      (sent-unmarked (step5 p (withFeature p Flow (reset Flow (p .control .seq) (settingOf Flow w o) (p .flow)))))
+      either-setting (validLocal Flow o) (sameSetting (p .flow .setting) (settingOf Flow w o)) p (unmarked p) (settingChanged Flow (settingOf Flow w o) p) (settingChanged Flow (settingOf Flow w o) (unmarked p))
+      refl (set-unmarked Flow (settingOf Flow w o))
   feature-unmarked Applications w o =
-      either-setting (validLocal Applications o) (sameSetting (p .applications .setting) (settingOf Applications w o)) (running p) p (unmarked p) _ _ _ refl
-      (sent-unmarked (step5 p (withFeature p Applications (reset Applications (p .control .seq) (settingOf Applications w o) (p .applications)))))
+      either-setting (validLocal Applications o) (sameSetting (p .applications .setting) (settingOf Applications w o)) p (unmarked p) (settingChanged Applications (settingOf Applications w o) p) (settingChanged Applications (settingOf Applications w o) (unmarked p))
+      refl (set-unmarked Applications (settingOf Applications w o))
 
   applications-unmarked : (w : Switches) (o : List ℕ) → unmarked (changedApplications w o p .port) ≡ unmarked (changedApplications w o (unmarked p) .port)
   unfolding changedApplications

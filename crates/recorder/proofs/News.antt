@@ -14,7 +14,7 @@ use Rattle.port.specs.declared.Port as machine
 use Rattle.port.specs.declared.Raised.{Raised}
 use Rattle.port.specs.declared.Raised.the-variants as raised-is
 use Rattle.port.specs.declared.Notices.{Notices}
-use Rattle.port.specs.PortEvents.{listed, inOrder}
+use Rattle.events.specs.PortEvents.{listed, inOrder}
 use Rattle.recorder.specs.declared.Recorder.{Recorder}
 use Rattle.recorder.specs.Recorder.{portAt, blank}
 use Rattle.recorder.specs.Calls.{Operation, create, frame, gone, flag, setting, write, take, Call, eventOf, raised, after, afterAll}

@@ -1,7 +1,7 @@
 -- Every reachable recorder is sound. Assumes nothing.
 use Prim.Native.Nat.{ℕ, _<_}
 use native.Mathlib.Omega.{arith}
-use mathlib.Core.Path.{_≡_, refl, sym, ap, _∙_}
+use mathlib.Core.Path.{_≡_, refl, _∙_}
 use mathlib.Core.Bool.{Bool, true, false}
 use mathlib.Core.List.{List, [], _∷_}
 use lib.ListN.{length}
@@ -18,8 +18,8 @@ use Rattle.parameters.specs.declared.Feature.the-variants.{Groups, Flow, Applic
 use Rattle.port.specs.declared.Port.{Port}
 use Rattle.port.specs.declared.Versions.{Versions}
 use Rattle.port.specs.Parts.{maxOf}
-use Rattle.port.specs.PortEvents.{refused, createdPort, settingsValid, made, versionsFor, switchesFor, parametersFor}
-use Rattle.port.specs.PortEvents as events
+use Rattle.events.specs.PortEvents.{refused, createdPort, settingsValid, made, versionsFor, switchesFor, parametersFor}
+use Rattle.events.specs.PortEvents as events
 use Rattle.handling.specs.Handling as handling
 use Rattle.handling.proofs.Standing.{Standing, stopped-off, handled-stands, flagged-stands, gone-stands, setting-stands, created-stands, blank-stands}
 use Rattle.recorder.specs.declared.Recorder.{Recorder}
@@ -114,6 +114,7 @@ calls-sound xs k =
     record {
       four = four-all xs blank ∙ blank-four;
       ports = λ n. stands xs k n .sound;
+      steps = λ n. stands xs k n .steps;
       stopped = λ n. stands xs k n .stopped;
       mark = λ n e. stopped-off (portAt (afterAll blank xs) n) (stands xs k n .stopped e) e;
       log = log-sound xs;

@@ -37,8 +37,8 @@ use Rattle.port.specs.declared.Written.the-variants as wrote
 use Rattle.port.specs.Parts.{featureOf, flagOf, running}
 use Rattle.port.specs.Replies.{eventReply, writtenReply}
 use Rattle.port.specs.Writing as writing
-use Rattle.port.specs.PortEvents.{blankPort, listed, inOrder, silent, refused, unchanged, event, createdPort, settingsValid, made, flagNotice, flagSet, freshPort, settingChanged, versionsFor, switchesFor, parametersFor, setTo, changedFeature}
-use Rattle.port.specs.PortEvents as events
+use Rattle.events.specs.PortEvents.{blankPort, listed, inOrder, silent, refused, unchanged, event, createdPort, settingsValid, made, flagNotice, flagSet, freshPort, settingChanged, versionsFor, switchesFor, parametersFor, setTo, changedFeature}
+use Rattle.events.specs.PortEvents as events
 use Rattle.handling.specs.Handling.{newlyMarked, frameEvent, accepted, breaks, withBroken, alone, rejected, given}
 use Rattle.handling.specs.Handling as handling
 use Rattle.recorder.specs.declared.Recorder.{Recorder}

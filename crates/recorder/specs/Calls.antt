@@ -13,7 +13,7 @@ use Rattle.port.specs.declared.Flag.{Flag}
 use Rattle.port.specs.declared.Port.{Port}
 use Rattle.port.specs.declared.Versions.{Versions}
 use Rattle.port.specs.declared.Event.{Event}
-use Rattle.port.specs.PortEvents.{unchanged, inOrder}
+use Rattle.events.specs.PortEvents.{unchanged, inOrder}
 use Rattle.port.specs.Replies.{eventReply, writtenReply}
 use Rattle.recorder.specs.declared.Recorder.{Recorder}
 use Rattle.recorder.specs.declared.Change.the-variants as change

@@ -12,7 +12,7 @@ use Rattle.notices.specs.LogModel as log
 use Rattle.notices.specs.SharedLog.{Undisturbed}
 use Rattle.recorder.specs.declared.Recorder.{Recorder}
 use Rattle.recorder.specs.Recorder.{blank}
-use Rattle.recorder.specs.Calls.{Operation, Call, raised, after, afterAll, replyOf}
+use Rattle.recorder.specs.Calls.{Call, raised, after, afterAll, replyOf}
 use Rattle.recorder.specs.Independent.{takes, untakenAt}
 
 -- all that a list of calls raises; how many notices it takes of port n

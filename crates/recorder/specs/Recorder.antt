@@ -2,7 +2,7 @@
 use Prim.Native.Nat.{ℕ, _-_}
 use mathlib.Core.Path.{_≡_}
 use mathlib.Core.Bool.{Bool, true, false, not, _||_}
-use mathlib.Core.List.{List, []}
+use mathlib.Core.List.{List}
 use lib.ListN.{getD, set, replicate}
 use Rattle.octets.specs.Words.{if_then_else_, _is_}
 use Rattle.tlv.specs.declared.Refusal.the-variants.{NoNotice, NoPort}
@@ -18,14 +18,13 @@ use Rattle.port.specs.declared.Notices.{Notices}
 use Rattle.port.specs.declared.Event.{Event}
 use Rattle.port.specs.declared.Written.{Written}
 use Rattle.port.specs.declared.Written.the-variants as wrote
-use Rattle.port.specs.PortEvents.{blankPort, refused, inOrder}
-use Rattle.port.specs.PortEvents as events
+use Rattle.events.specs.PortEvents.{blankPort, refused, inOrder}
+use Rattle.events.specs.PortEvents as events
 use Rattle.handling.specs.Handling as handling
 use Rattle.port.specs.Writing as writing
 use Rattle.recorder.specs.declared.Recorder.{Recorder}
 use Rattle.recorder.specs.declared.Change.{Change}
 use Rattle.recorder.specs.declared.Change.the-variants.{Frame, PeerGone, Flag, Setting}
-use Rattle.recorder.specs.declared.Took.{Took}
 use Rattle.recorder.specs.declared.Took.the-variants.{Notice, Refused}
 use Rattle.recorder.specs.declared.Taken.{Taken}
 

@@ -5,7 +5,7 @@ use mathlib.Core.Bool.{Bool, true, false, not, _||_, false≢true}
 use mathlib.Core.List.{List, []}
 use lib.ListN.{set, replicate}
 use borrow.Author.Tests.{not-true, not-false, eq-eqb, ne-eqb, le-leb, lt-leb}
-use Rattle.octets.specs.Words.{if_then_else_, _is_}
+use Rattle.octets.specs.Words.{if_then_else_}
 use Rattle.tlv.specs.declared.Refusal.{Refusal}
 use Rattle.tlv.specs.declared.Refusal.the-variants.{NoNotice, NoPort}
 use Rattle.tlv.specs.declared.Reading.{Reading}
@@ -26,8 +26,8 @@ use Rattle.port.specs.declared.Versions.{Versions}
 use Rattle.port.specs.declared.Event.{Event}
 use Rattle.port.specs.declared.Written.{Written}
 use Rattle.port.specs.declared.Written.the-variants as wrote
-use Rattle.port.specs.PortEvents.{blankPort, refused, listed, inOrder}
-use Rattle.port.specs.PortEvents as events
+use Rattle.events.specs.PortEvents.{blankPort, refused, listed, inOrder}
+use Rattle.events.specs.PortEvents as events
 use Rattle.handling.specs.Handling as handling
 use Rattle.handling.specs.HandlingLaws.{Admits, handle-refused}
 use Rattle.port.specs.Writing as writing

@@ -1,4 +1,5 @@
--- What every recorder has that users can come by: four ports, each sound and, while stopped, in the fresh stopped state; and a sound log.
+-- What every recorder has that users can come by: four ports, each sound, its releases in step with its numbers and, while stopped, in the fresh
+-- stopped state; and a sound log.
 use Prim.Native.Nat.{ℕ, _<_}
 use mathlib.Core.Path.{_≡_}
 use mathlib.Core.Bool.{false}
@@ -7,10 +8,9 @@ use lib.ListN.{length}
 use Rattle.octets.specs.Octets.{at}
 use Rattle.parameters.specs.declared.Feature.{Feature}
 use Rattle.notices.specs.LogModel.{Sound}
-use Rattle.port.specs.declared.Port.{Port}
 use Rattle.port.specs.Parts.{maxOf, running}
-use Rattle.port.specs.PortEvents.{freshPort}
-use Rattle.port.specs.Sound.{SoundPort}
+use Rattle.events.specs.PortEvents.{freshPort}
+use Rattle.port.specs.Sound.{SoundPort, InStep}
 use Rattle.recorder.specs.declared.Recorder.{Recorder}
 use Rattle.recorder.specs.Recorder.{blank, portAt}
 use Rattle.recorder.specs.Calls.{Operation, create, frame, gone, flag, setting, write, take, Call, afterAll}
@@ -38,6 +38,8 @@ pub record Reachable (r : Recorder) : Type 0 where
 pub record SoundRecorder (r : Recorder) : Type 0 where
   pub four : length (r .ports) ≡ 4
   pub ports : (n : ℕ) → SoundPort (portAt r n)
+  -- 02, E5: what is released is the present, but for changes that wait
+  pub steps : (n : ℕ) → InStep (portAt r n)
   pub stopped : (n : ℕ) → running (portAt r n) ≡ false → freshPort (portAt r n) ≡ portAt r n
   -- so the mark of a broken control is off while stopped (02, E1: "a fresh state, clears it")
   pub mark : (n : ℕ) → running (portAt r n) ≡ false → portAt r n .control .broken ≡ false

@@ -23,7 +23,7 @@ pub fn notice(out: &mut [u8], at: usize, n: Notice) -> usize {
 }
 
 fn raised_one(out: &mut [u8], at: usize, x: Raised, feature: u8) -> usize {
-    let number = port::events::raised_number(x);
+    let number = events::raised_number(x);
     if number == 0 {
         return at;
     }
@@ -46,7 +46,7 @@ pub fn raised(out: &mut [u8], at: usize, n: Notices) -> usize {
 fn one_if_raised(x: Raised) -> u8
     ensures { λ r. ⌜ r ≤ 1 ⌝ }
 {
-    if port::events::raised_number(x) == 0 {
+    if events::raised_number(x) == 0 {
         return 0;
     }
     1

@@ -6,7 +6,7 @@ use script::Unread;
 use script::forms::Field;
 use script::forms::Name;
 
-// The place of a name in the form of `field`.
+// The place among the forms of `due`: of a name, of a field, of all.
 fn name_place(n: Name) -> u64 {
     match n {
         Name::Control => 7,
@@ -34,37 +34,44 @@ fn field_place(f: Field) -> u64 {
         Field::Selector => 3,
         Field::Parameters => 4,
         Field::Octets => 5,
-        _ => 6,
+        Field::End => 6,
+        Field::Decimal(_) => 20,
     }
 }
 
-fn limited(out: &mut [u8], at: usize, limit: u16) -> usize {
-    let numbers = [limit as u64];
-    forms::put(out, at, b"a number up to # is due\n", &numbers)
+fn due_place(d: Due) -> u64 {
+    match d {
+        Due::Field(f) => field_place(f),
+        Due::Event => 21,
+        Due::Feature => 22,
+        Due::Frame => 23,
+        Due::Revision => 24,
+    }
 }
 
-fn field(out: &mut [u8], at: usize, f: Field) -> usize {
-    let numbers = [field_place(f)];
+// The limit of a number that is due; 0 where another word is.
+fn field_limit(f: Field) -> u64 {
     match f {
-        Field::Decimal(limit) => limited(out, at, limit),
-        _ => forms::put(
-            out,
-            at,
-            b"[a bit is|two hex digits are|four hex digits are|a selector is|parameters is|octets are|the end of the line is|control is|groups is|flow is|applications is|max is|advertise is|enable is|willing is|priorities is|percentages is|mask is|classes is|revision is] due\n",
-            &numbers,
-        ),
+        Field::Decimal(limit) => limit as u64,
+        _ => 0,
+    }
+}
+
+fn due_limit(d: Due) -> u64 {
+    match d {
+        Due::Field(f) => field_limit(f),
+        _ => 0,
     }
 }
 
 // `WHAT is due`
 fn due(out: &mut [u8], at: usize, d: Due) -> usize {
-    match d {
-        Due::Field(f) => field(out, at, f),
-        Due::Event => crate::text(out, at, b"an event is due\n"),
-        Due::Feature => crate::text(out, at, b"a feature is due\n"),
-        Due::Frame => crate::text(out, at, b"a frame is due\n"),
-        Due::Revision => crate::text(out, at, b"1.0 or 1.01 is due\n"),
-    }
+    let numbers = [due_limit(d)];
+    let form = forms::picked(
+        b"a bit is due\n|two hex digits are due\n|four hex digits are due\n|a selector is due\n|parameters is due\n|octets are due\n|the end of the line is due\n|control is due\n|groups is due\n|flow is due\n|applications is due\n|max is due\n|advertise is due\n|enable is due\n|willing is due\n|priorities is due\n|percentages is due\n|mask is due\n|classes is due\n|revision is due\n|a number up to # is due\n|an event is due\n|a feature is due\n|a frame is due\n|1.0 or 1.01 is due\n",
+        due_place(d),
+    );
+    forms::put(out, at, form, &numbers)
 }
 
 // What is wrong with a whole line: 0 for its length, 1 for its end.
@@ -112,7 +119,7 @@ pub fn unread(
 // A line of the settings that is missing.
 pub fn missing(out: &mut [u8], at: usize, line: u64, name: Name) -> usize {
     let behind = word(out, at, true, line, 1);
-    field(out, behind, Field::Word(name))
+    due(out, behind, Due::Field(Field::Word(name)))
 }
 
 // A line of the settings for another port than the one due.
@@ -137,43 +144,32 @@ pub fn another_due(out: &mut [u8], at: usize, line: u64) -> usize {
     )
 }
 
-fn one(out: &mut [u8], at: usize, form: &[u8], n: u64) -> usize {
-    let numbers = [n];
-    forms::put(out, at, form, &numbers)
-}
-
-fn two(out: &mut [u8], at: usize, form: &[u8], n: u64, m: u64) -> usize {
-    let numbers = [n, m];
-    forms::put(out, at, form, &numbers)
+// A fault's place among the forms of `reason`, and its numbers.
+fn fault_numbers(f: Fault) -> [u64; 3] {
+    match f {
+        Fault::None => [0, 0, 0],
+        Fault::Length(n, due) => [1, n as u64, due as u64],
+        Fault::Ragged(n) => [2, n as u64, 0],
+        Fault::Group(p, g) => [3, p as u64, g as u64],
+        Fault::Sum(n) => [4, n as u64, 0],
+        Fault::Classes(n) => [5, n as u64, 0],
+        Fault::Ones(n, m) => [6, n as u64, m as u64],
+        Fault::Entries(n) => [7, n as u64, 0],
+        Fault::Foreign(i) => [8, i as u64, 0],
+        Fault::Again(i, j) => [9, i as u64, j as u64],
+        Fault::Selector(i, x) => [10, i as u64, x as u64],
+    }
 }
 
 // Why a setting is invalid.
 fn reason(out: &mut [u8], at: usize, f: Fault) -> usize {
-    match f {
-        Fault::None => at,
-        Fault::Length(n, due) => two(out, at, b"# octets, not #\n", n as u64, due as u64),
-        Fault::Ragged(n) => one(out, at, b"# octets, not a multiple of 6\n", n as u64),
-        Fault::Group(p, g) => two(out, at, b"priority # has group #\n", p as u64, g as u64),
-        Fault::Sum(n) => one(out, at, b"the percentages sum to #\n", n as u64),
-        Fault::Classes(n) => one(out, at, b"# classes\n", n as u64),
-        Fault::Ones(n, m) => two(
-            out,
-            at,
-            b"# ones in the mask, # classes\n",
-            n as u64,
-            m as u64,
-        ),
-        Fault::Entries(n) => one(out, at, b"# entries\n", n as u64),
-        Fault::Foreign(i) => one(out, at, b"entry # is foreign\n", i as u64),
-        Fault::Again(i, j) => two(
-            out,
-            at,
-            b"entries # and # have the same selector and id\n",
-            i as u64,
-            j as u64,
-        ),
-        Fault::Selector(i, x) => two(out, at, b"entry # has selector #\n", i as u64, x as u64),
-    }
+    let x = fault_numbers(f);
+    let numbers = [x[1], x[2]];
+    let form = forms::picked(
+        b"|# octets, not #\n|# octets, not a multiple of 6\n|priority # has group #\n|the percentages sum to #\n|# classes\n|# ones in the mask, # classes\n|# entries\n|entry # is foreign\n|entries # and # have the same selector and id\n|entry # has selector #\n",
+        x[0],
+    );
+    forms::put(out, at, form, &numbers)
 }
 
 // `refused 9 invalid-setting: WHY`
@@ -184,6 +180,7 @@ pub fn invalid(out: &mut [u8], at: usize, f: Fault) -> usize {
 
 // `bad settings: line N: refused 9 invalid-setting: WHY`
 pub fn invalid_setting(out: &mut [u8], at: usize, line: u64, f: Fault) -> usize {
-    let behind = one(out, at, b"bad settings: line #: ", line);
+    let numbers = [line];
+    let behind = forms::put(out, at, b"bad settings: line #: ", &numbers);
     invalid(out, behind, f)
 }

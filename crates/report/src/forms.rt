@@ -31,8 +31,8 @@ fn between(s: &[u8], from: usize, end: usize) -> &[u8] {
     octets::from(octets::first(s, end), from)
 }
 
-// The word with a number among those that bars part; empty where there are fewer.
-fn picked(words: &[u8], n: u64) -> &[u8] {
+// The word, or the form, with a number among those that bars part; empty where there are fewer.
+pub fn picked(words: &[u8], n: u64) -> &[u8] {
     let mut from: usize = 0;
     let mut left = n;
     while from < words.len() {

@@ -1,7 +1,7 @@
 -- docs/FORMATS.md: the lines of settings and of events.
 use Prim.Native.Nat.{ℕ, _+_, _-_, _%_}
 use mathlib.Core.Bool.{Bool, true, false, _&&_, _||_}
-use mathlib.Core.List.{List, [], _∷_, _++_}
+use mathlib.Core.List.{List, [], _++_}
 use lib.ListN.{length, take, drop, replicate}
 use Rattle.octets.specs.Words.{if_then_else_, _below_, _is_}
 use Rattle.octets.specs.Octets.{at, same}

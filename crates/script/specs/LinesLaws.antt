@@ -3,11 +3,11 @@ use Prim.Native.Nat.{ℕ, _+_, _-_, _%_, _≤_, _<_}
 use native.Mathlib.Omega.{arith}
 use mathlib.Core.Path.{_≡_, refl, sym, _∙_}
 use mathlib.Core.Bool.{Bool, true, false, not}
-use mathlib.Core.List.{List, [], _∷_, _++_}
+use mathlib.Core.List.{List, [], _∷_}
 use lib.Dec.{eqb}
-use lib.ListN.{length, take, drop, replicate}
+use lib.ListN.{length, take, drop}
 use borrow.Author.Tests.{lt-ltb, le-ltb, eq-eqb, ne-eqb, not-true, not-false}
-use Rattle.octets.specs.Words.{if_then_else_, _is_}
+use Rattle.octets.specs.Words.{_is_}
 use Rattle.octets.specs.Octets.{at, same}
 use Rattle.octets.specs.Texts.{text}
 use Rattle.tlv.specs.declared.Revision.the-variants.{Rev101, Rev10}

@@ -1,6 +1,6 @@
 -- docs/FORMATS.md: words, numbers, bits and octets of a line. A line is a list of octets without its line feed.
 use Prim.Native.Nat.{ℕ, zero, suc, _+_, _-_, _*_, _/_, _%_, min}
-use mathlib.Core.Bool.{Bool, true, false, _&&_}
+use mathlib.Core.Bool.{Bool, true, _&&_}
 use mathlib.Core.List.{List, [], _∷_, _++_}
 use lib.ListN.{length}
 use Rattle.octets.specs.Words.{if_then_else_, _below_, _atmost_, _is_}

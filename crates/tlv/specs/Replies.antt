@@ -5,7 +5,6 @@ use Rattle.tlv.specs.declared.Refusal.the-variants.{PastEnd}
 use Rattle.tlv.specs.declared.Head.{Head}
 use Rattle.tlv.specs.declared.Head.the-variants.{End, Past, SubTlv}
 use Rattle.tlv.specs.declared.Found.{Found}
-use Rattle.tlv.specs.declared.Contents.{Contents}
 use Rattle.tlv.specs.declared.Reading.{Reading}
 use Rattle.tlv.specs.declared.Reading.the-variants.{Refused, Accepted}
 use Rattle.tlv.specs.Refusals.{Reply, done, refusalAt}

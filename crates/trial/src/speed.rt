@@ -86,7 +86,7 @@ pub extern "C" fn trial_read_many(frames: &[u8], size: usize, times: usize) -> u
 
 // The port of a creation step, whatever number it has.
 fn made(creation: &[u8]) -> Port {
-    let e = steps::create(1, port::events::blank(), octets::from(creation, 2));
+    let e = steps::create(1, events::blank(), octets::from(creation, 2));
     e.port
 }
 

@@ -157,10 +157,10 @@ fn raised(n: Notices) -> [u8; 4] {
     let groups = n.groups;
     let flow = n.flow;
     let applications = n.applications;
-    let of_port = port::events::raised_number(port);
-    let of_groups = port::events::raised_number(groups);
-    let of_flow = port::events::raised_number(flow);
-    let of_applications = port::events::raised_number(applications);
+    let of_port = events::raised_number(port);
+    let of_groups = events::raised_number(groups);
+    let of_flow = events::raised_number(flow);
+    let of_applications = events::raised_number(applications);
     [of_port, of_groups, of_flow, of_applications]
 }
 

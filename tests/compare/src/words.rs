@@ -4,7 +4,7 @@
 use crate::script::{Script, Step, What};
 use reference::events::{Event, OwnedSetting};
 use reference::text::Text;
-use reference::{Flag, Port, Recorder, Revision};
+use reference::{Flag, Port, Recorder};
 use std::fmt::Write;
 
 pub fn hex(octets: &[u8]) -> String {
@@ -29,13 +29,9 @@ fn string(text: Text) -> String {
 /// The settings of a port as lines, the last without its line feed.
 fn settings_lines(number: u8, port: &Port) -> String {
     let mut text = Text::default();
-    text.number(number).put(" ").control_line(port);
-    text.put("\n").number(number).put(" ").settings_line(port.groups());
-    text.put("\n").number(number).put(" ").settings_line(port.flow());
-    if port.revision() == Revision::R1_01 {
-        text.put("\n").number(number).put(" ").settings_line(port.applications());
-    }
-    string(text)
+    text.settings_lines(port);
+    let lines: Vec<_> = string(text).lines().map(|line| format!("{number} {line}")).collect();
+    lines.join("\n")
 }
 
 /// The line of an event. What a desk's line cannot say stands behind `#`.
@@ -159,6 +155,7 @@ impl<'a> Named<'a> {
                 self.parameters(&format!("{feature} peer parameters"));
             }
             self.parameters(&format!("{feature} OperCfg"));
+            self.parameters(&format!("{feature} released"));
         }
     }
 

@@ -31,11 +31,12 @@ impl Source {
         let port = self.rng.below(6) as u8;
         let what = match self.rng.below(600) {
             0..=29 => What::Look,
-            30..=31 => What::Dropped(self.near(u32::MAX).max(1 << 31)),
+            30..=31 => What::Dropped(number(&mut self.rng, u32::MAX).max(1 << 31)),
             // A stopped port holds the fresh state, whose numbers are fixed.
-            32..=35 if self.generator.recorder().port(port).is_ok_and(Port::running) => {
-                self.numbers()
-            }
+            32..=35 => match self.generator.recorder().port(port) {
+                Ok(state) if state.running() => numbers(&mut self.rng, state),
+                _ => What::Look,
+            },
             _ => {
                 let (call, answer) = self.generator.step();
                 return (call.into(), answer);
@@ -45,28 +46,35 @@ impl Source {
         let answer = step.apply(self.generator.recorder_mut());
         (step, answer)
     }
+}
 
-    /// A number at or beside `near`.
-    fn near(&mut self, near: u32) -> u32 {
-        match self.rng.below(4) {
-            0 => near.wrapping_sub(1),
-            1 => near.wrapping_add(1),
-            _ => near,
+/// A number at or beside `near`.
+fn number(rng: &mut XorShift, near: u32) -> u32 {
+    match rng.below(4) {
+        0 => near.wrapping_sub(1),
+        1 => near.wrapping_add(1),
+        _ => near,
+    }
+}
+
+/// Numbers for a running port. What waits, waits for the next SeqNo.
+fn numbers(rng: &mut XorShift, port: &Port) -> What {
+    let seqno = match rng.below(8) {
+        0..=4 => u32::MAX,
+        5 => u32::MAX - 1,
+        6 => 0,
+        _ => rng.next_u64() as u32,
+    };
+    let ackno = number(rng, u32::MAX);
+    let rcvdackno = number(rng, seqno);
+    let [groups, flow, applications] = [2, 3, 4].map(|feature| {
+        if port.feature(feature).waits {
+            seqno.wrapping_add(1)
+        } else {
+            number(rng, seqno)
         }
-    }
-
-    fn numbers(&mut self) -> What {
-        let seqno = match self.rng.below(8) {
-            0..=4 => u32::MAX,
-            5 => u32::MAX - 1,
-            6 => 0,
-            _ => self.rng.next_u64() as u32,
-        };
-        let ackno = self.near(u32::MAX);
-        let rcvdackno = self.near(seqno);
-        let [groups, flow, applications] = [(); 3].map(|()| self.near(seqno));
-        What::Numbers([seqno, ackno, rcvdackno, groups, flow, applications])
-    }
+    });
+    What::Numbers([seqno, ackno, rcvdackno, groups, flow, applications])
 }
 
 fn check(script: &Script, out: &mut [u8]) {
@@ -103,23 +111,19 @@ fn the_engines_agree() {
     coverage.all_occurred();
 }
 
-/// W10: SeqNo 4,294,967,295 acknowledged with a change pending goes to 0, at
-/// both engines.
-#[test]
-fn seqno_wraps() {
-    let setting = |parameters: &[u8]| OwnedSetting {
-        advertise: true,
-        enable: true,
-        willing: false,
-        parameters: parameters.to_vec(),
-    };
+fn setting(advertise: bool, parameters: &[u8]) -> OwnedSetting {
+    OwnedSetting { advertise, enable: true, willing: false, parameters: parameters.to_vec() }
+}
+
+/// W10 at both engines: SeqNo 4,294,967,295 acknowledged with a change of flow control pending goes to 0.
+fn seqno_wraps(flow: OwnedSetting, changed: OwnedSetting) {
     let settings = OwnedSettings {
         revision: Revision::R1_01,
         control_max: 0,
         feature: [
-            (0, setting(&[0, 1, 0, 0, 50, 50, 0, 0, 0, 0, 0, 0, 2])),
-            (0, setting(&[8, 8])),
-            (0, setting(&[0x89, 6, 0, 0x1b, 0x21, 8])),
+            (0, setting(true, &[0, 1, 0, 0, 50, 50, 0, 0, 0, 0, 0, 0, 2])),
+            (0, flow.clone()),
+            (0, setting(true, &[0x89, 6, 0, 0x1b, 0x21, 8])),
         ],
     };
     // No features: they are absent, and their sub-TLVs stay as they are.
@@ -128,7 +132,8 @@ fn seqno_wraps() {
         control.extend(ackno.to_be_bytes());
         What::Event(Event::Frame(assemble(&[(1, control)])))
     };
-    let change = What::Event(Event::Change { feature: 3, setting: setting(&[16, 8]) });
+    let change = What::Event(Event::Change { feature: 3, setting: changed });
+    let write = || What::Event(Event::Write(57));
     let port = 4;
     let mut recorder = Recorder::blank();
     let mut script = Script::default();
@@ -137,16 +142,35 @@ fn seqno_wraps() {
         let answer = step.apply(&mut recorder);
         script.push(step, &answer, &recorder);
         let state = recorder.port(port).expect("a port");
-        (state.control().seqno, state.flow().featureseqno, state.flow().syncd)
+        let flow = state.flow();
+        (state.control().seqno, flow.featureseqno, flow.syncd, flow.waits())
     };
     let last = u32::MAX;
-    assert_eq!(seqno_after(What::Event(Event::Create(settings))), (1, 1, false));
-    assert_eq!(seqno_after(acknowledging(1)), (1, 1, true));
+    let created = seqno_after(What::Event(Event::Create(settings)));
+    assert_eq!(created, (1, 1, !flow.advertise, false));
+    assert_eq!(seqno_after(acknowledging(1)), (1, 1, true, false));
     let numbers = What::Numbers([last, 0, last - 1, 1, 1, 1]);
-    assert_eq!(seqno_after(numbers), (last, 1, true));
-    assert_eq!(seqno_after(change), (last, 0, false));
-    assert_eq!(seqno_after(acknowledging(last)), (0, 0, false));
-    assert_eq!(seqno_after(What::Event(Event::Write(57))), (0, 0, false));
-    assert_eq!(seqno_after(acknowledging(0)), (0, 0, true));
+    assert_eq!(seqno_after(numbers), (last, 1, true, false));
+    assert_eq!(seqno_after(change), (last, 0, false, true));
+    assert_eq!(seqno_after(write()), (last, 0, false, true));
+    assert_eq!(seqno_after(acknowledging(0)), (last, 0, false, true));
+    assert_eq!(seqno_after(acknowledging(last)), (0, 0, false, false));
+    assert_eq!(seqno_after(write()), (0, 0, false, false));
+    assert_eq!(seqno_after(acknowledging(0)), (0, 0, true, false));
     check(&script, &mut [0; 1 << 14]);
+}
+
+#[test]
+fn seqno_wraps_with_a_change() {
+    seqno_wraps(setting(true, &[8, 8]), setting(true, &[16, 8]));
+}
+
+#[test]
+fn seqno_wraps_with_a_withdrawal() {
+    seqno_wraps(setting(true, &[8, 8]), setting(false, &[8, 8]));
+}
+
+#[test]
+fn seqno_wraps_with_an_addition() {
+    seqno_wraps(setting(false, &[8, 8]), setting(true, &[8, 8]));
 }

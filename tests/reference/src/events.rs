@@ -548,12 +548,22 @@ impl Generator {
         self.unmade = (0..count).map(|i| 1 + (first + i) % PORTS as u8).collect();
     }
 
+    /// Begins again with two ends as ports 1 and 2. The peer of each begins with the settings of the other.
+    pub fn start_ends(&mut self, [a, b]: &[OwnedSettings; 2]) {
+        self.start();
+        self.unmade.clear();
+        for (port, own, other) in [(1, a, b), (2, b, a)] {
+            self.recorder.create(port, &own.lend()).expect("valid settings");
+            self.peers.create(port, &other.lend()).expect("valid settings");
+        }
+    }
+
     /// The generator's own recorder, after the last call.
     pub fn recorder(&self) -> &Recorder {
         &self.recorder
     }
 
-    /// For the wrap of numbers only: the same recorder, to be changed.
+    /// The same recorder, to be changed.
     pub fn recorder_mut(&mut self) -> &mut Recorder {
         &mut self.recorder
     }
@@ -726,7 +736,8 @@ impl Generator {
         Event::Change { feature: number, setting }
     }
 
-    fn frame(&mut self, port: u8, state: &Port) -> Vec<u8> {
+    /// A frame for a port in this state: its peer's, crafted, stale, damaged or hostile.
+    pub fn frame(&mut self, port: u8, state: &Port) -> Vec<u8> {
         let frame = match self.rng.below(100) {
             0..=34 => self.peers_frame(port, state),
             35..=74 => self.crafted(state),

@@ -5,6 +5,7 @@
 //! and allocates nothing; only `dump`, `View`, the event generator and the text
 //! forms of the programs do.
 
+pub mod capture;
 pub mod dump;
 pub mod events;
 pub mod layout;
@@ -26,7 +27,7 @@ pub mod words;
 pub use dump::{PeerView, View};
 pub use layout::{Applications, Entry, FlowControl, Groups, Parameters};
 pub use log::{Log, Notice};
-pub use outcome::{Feature, Peer, Reason};
+pub use outcome::{Advert, Feature, Peer, Reason};
 pub use port::{ControlState, Flag, Flags, Port};
 pub use recorder::{Recorder, PORTS};
 pub use refusal::Refusal;

@@ -55,6 +55,16 @@ pub struct Peer<P> {
     pub parameters: P,
 }
 
+/// A feature's sub-TLV, but for its Max, which never changes.
+#[derive(Clone, Copy, Debug, PartialEq, Eq)]
+pub struct Advert<P> {
+    pub oper: u8,
+    pub enable: bool,
+    pub willing: bool,
+    pub error: bool,
+    pub parameters: P,
+}
+
 /// One feature machine.
 #[derive(Clone, Copy, Debug)]
 pub struct Feature<P> {
@@ -68,9 +78,11 @@ pub struct Feature<P> {
     pub reason: Reason,
     pub peer: Option<Peer<P>>,
     pub opercfg: P,
+    /// The sub-TLV last released, which the frames carry (document 02, E5).
+    pub released: Option<Advert<P>>,
 }
 
-/// What of a feature may change in the written frame while its setting stays.
+/// What of a feature's present sub-TLV may change while its setting stays.
 /// None if it is not advertised.
 pub(crate) type Shown = Option<(u8, bool)>;
 
@@ -88,13 +100,20 @@ impl<P: Parameters> Feature<P> {
             reason: Reason::NoPeerYet,
             peer: None,
             opercfg: setting.parameters,
+            released: None,
         };
         feature.fresh(false);
         feature
     }
 
-    /// The fresh state of the present setting; every mode is false when stopped.
+    /// The fresh state of the present setting, released; every mode is false when stopped.
     pub(crate) fn fresh(&mut self, running: bool) {
+        self.anew(running);
+        self.release();
+    }
+
+    /// As in the fresh state, but for what is released.
+    fn anew(&mut self, running: bool) {
         self.oper = self.max;
         self.peer = None;
         self.error = false;
@@ -111,15 +130,37 @@ impl<P: Parameters> Feature<P> {
         }
     }
 
+    /// The sub-TLV by the present state, none if not advertised.
+    pub fn present(&self) -> Option<Advert<P>> {
+        self.setting.advertise.then_some(Advert {
+            oper: self.oper,
+            enable: self.setting.enable,
+            willing: self.setting.willing,
+            error: self.error,
+            parameters: self.setting.parameters,
+        })
+    }
+
+    /// Whether the frames carry another sub-TLV than the present one, or none, or one too many.
+    pub fn waits(&self) -> bool {
+        self.released != self.present()
+    }
+
+    /// From here on the frames carry the present sub-TLV.
+    pub(crate) fn release(&mut self) {
+        self.released = self.present();
+    }
+
     #[inline]
     pub(crate) fn shown(&self) -> Shown {
         self.setting.advertise.then_some((self.oper, self.error))
     }
 
-    /// Whether the send rule waits for this feature.
+    /// Whether the send rule counts this feature: advertised, or withdrawn and not yet
+    /// acknowledged. One that was not advertised before is Syncd.
     #[inline]
     pub(crate) fn pending(&self) -> bool {
-        self.setting.advertise && !self.syncd
+        !self.syncd
     }
 
     /// Step 3: Syncd only if FeatureSeqNo equals both numbers.
@@ -211,60 +252,50 @@ impl<P: Parameters> Feature<P> {
     }
 
     /// A different setting on a running port, as far as this feature's own
-    /// state goes. Says whether the written frame changed.
-    pub(crate) fn change(&mut self, setting: FeatureSetting<P>, seqno: u32) -> bool {
+    /// state goes.
+    pub(crate) fn change(&mut self, setting: FeatureSetting<P>, seqno: u32) {
+        let before = self.present();
         let advertised = self.setting.advertise;
         self.setting = setting;
         match (advertised, setting.advertise) {
-            (true, true) => {
-                match self.peer {
-                    Some(peer) => self.decide(&peer),
-                    None => self.opercfg = setting.parameters,
-                }
-                // Advertised settings that differ are written differently.
-                self.changed(seqno);
-                true
-            }
+            (true, true) => match self.peer {
+                Some(peer) => self.decide(&peer),
+                None => self.opercfg = setting.parameters,
+            },
             (false, false) => {
                 self.opercfg = setting.parameters;
                 self.mode = setting.enable;
-                false
             }
-            (_, newly) => {
-                self.fresh(true);
+            _ => {
+                self.anew(true);
                 self.featureseqno = seqno.wrapping_add(1);
-                if newly {
-                    self.changed(seqno);
-                }
-                true
             }
+        }
+        // Step 5. One that is withdrawn, or newly advertised, counts as changed.
+        if self.present() != before {
+            self.changed(seqno);
         }
     }
 
-    /// Length of the sub-TLV with its head, 0 if not advertised.
+    /// Length of the released sub-TLV with its head, 0 if there is none.
     #[inline]
     pub(crate) fn written_length(&self) -> usize {
-        if self.setting.advertise {
-            2 + FEATURE_HEAD + self.setting.parameters.length()
-        } else {
-            0
-        }
+        self.released.map_or(0, |released| 2 + FEATURE_HEAD + released.parameters.length())
     }
 
-    /// Writes the sub-TLV, if advertised, and gives the octets behind it.
+    /// Writes the released sub-TLV, if there is one, and gives the octets behind it.
     #[inline]
     pub(crate) fn write<'a>(&self, out: &'a mut [u8]) -> &'a mut [u8] {
         let (ours, behind) = out.split_at_mut(self.written_length());
-        if !ours.is_empty() {
-            let setting = &self.setting;
+        if let Some(released) = &self.released {
             let flag = |on: bool, bit: u8| if on { bit } else { 0 };
-            let flags = flag(setting.enable, ENABLE)
-                | flag(setting.willing, WILLING)
-                | flag(self.error, ERROR);
+            let flags = flag(released.enable, ENABLE)
+                | flag(released.willing, WILLING)
+                | flag(released.error, ERROR);
             let (start, parameters) = ours.split_at_mut(2 + FEATURE_HEAD);
             let [high, low] = layout::head(P::FEATURE, FEATURE_HEAD + parameters.len());
-            start.copy_from_slice(&[high, low, self.oper, self.max, flags, 0]);
-            setting.parameters.write(parameters);
+            start.copy_from_slice(&[high, low, released.oper, self.max, flags, 0]);
+            released.parameters.write(parameters);
         }
         behind
     }

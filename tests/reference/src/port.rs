@@ -5,7 +5,7 @@ use crate::layout::{
     CONTROL_LENGTH, FLOW_CONTROL, OUI, PRIORITY_GROUPS, SUBTYPE, TLV_TYPE,
 };
 use crate::log::{self, Writer};
-use crate::outcome::{Feature, Reason, Shown};
+use crate::outcome::{Advert, Feature, Reason, Shown};
 use crate::refusal::{self, Refusal};
 use crate::revision::Revision;
 use crate::settings::{FeatureSetting, Setting, Settings};
@@ -72,14 +72,16 @@ pub struct Port {
     applications: Feature<Applications>,
 }
 
-/// What of the written frame may change while the settings stay. Two of these
-/// are equal exactly if the octets to be written are, the settings being equal.
+/// What of the written frame may change. Two of these are equal exactly if the
+/// octets to be written are.
 #[derive(Clone, Copy, PartialEq, Eq)]
 struct Written {
     oper: u8,
     seqno: u32,
     ackno: u32,
-    shown: [Shown; 3],
+    groups: Option<Advert<Groups>>,
+    flow: Option<Advert<FlowControl>>,
+    applications: Option<Advert<Applications>>,
 }
 
 impl Port {
@@ -142,12 +144,13 @@ impl Port {
         }
         let frame = layout::read(octets, self.revision)?;
         let before = self.written();
+        let shown = self.shown();
         let reasons = self.reasons();
         match &frame.controls {
             Controls::Several => self.control_twice(log),
             Controls::One(control) => self.one_control(control, &frame),
         }
-        self.step_5(&before.shown);
+        self.step_5(&shown);
         self.feature_notices(reasons, log);
         Ok(before != self.written())
     }
@@ -201,22 +204,20 @@ impl Port {
         if !self.revision.features().contains(&feature) {
             return Err(refusal::NO_SUCH_FEATURE);
         }
-        let running = self.running();
+        let before = self.octets_to_be_written();
+        let running = before.is_some();
         let reasons = self.reasons();
         let seqno = self.control.seqno;
-        let changed = match feature {
+        let different = match feature {
             PRIORITY_GROUPS => change_one(&mut self.groups, setting, running, seqno)?,
             FLOW_CONTROL => change_one(&mut self.flow, setting, running, seqno)?,
             _ => change_one(&mut self.applications, setting, running, seqno)?,
         };
-        let Some(wish) = changed else {
-            return Ok(false);
-        };
-        if running {
+        if different && running {
             self.send_rule();
             self.feature_notices(reasons, log);
         }
-        Ok(wish || seqno != self.control.seqno)
+        Ok(before != self.octets_to_be_written())
     }
 
     /// Writes the frame and gives its length. Changes only the frame's octets.
@@ -290,8 +291,8 @@ impl Port {
             featureseqno;
     }
 
-    /// The fresh state of the present settings, with the send rule if running.
-    /// Flags and highest versions stay.
+    /// The fresh state of the present settings, released, with the send rule if
+    /// running. Flags and highest versions stay.
     fn fresh(&mut self) {
         let running = self.running();
         self.control = ControlState::fresh(self.control.max);
@@ -303,10 +304,19 @@ impl Port {
         }
     }
 
+    /// Whether a feature is not Syncd.
+    #[inline]
+    pub(crate) fn pending(&self) -> bool {
+        self.groups.pending() || self.flow.pending() || self.applications.pending()
+    }
+
+    /// With a new SeqNo, all that waits is released (document 02, E5).
     fn send_rule(&mut self) {
-        let pending = self.groups.pending() || self.flow.pending() || self.applications.pending();
-        if pending && self.control.rcvdackno == self.control.seqno {
+        if self.pending() && self.control.rcvdackno == self.control.seqno {
             self.control.seqno = self.control.seqno.wrapping_add(1);
+            self.groups.release();
+            self.flow.release();
+            self.applications.release();
         }
     }
 
@@ -341,7 +351,8 @@ impl Port {
         self.applications.receive(frame.applications);
     }
 
-    /// Step 5 after a frame: the settings stayed, so only Oper and Error count.
+    /// Step 5 after a frame, of the present sub-TLVs: the settings stayed, so only
+    /// Oper and Error count.
     fn step_5(&mut self, before: &[Shown; 3]) {
         let seqno = self.control.seqno;
         if self.groups.shown() != before[0] {
@@ -367,9 +378,15 @@ impl Port {
         }
     }
 
+    /// Of features 2, 3, 4.
     #[inline]
-    fn reasons(&self) -> [Reason; 3] {
+    pub fn reasons(&self) -> [Reason; 3] {
         [self.groups.reason, self.flow.reason, self.applications.reason]
+    }
+
+    #[inline]
+    fn shown(&self) -> [Shown; 3] {
+        [self.groups.shown(), self.flow.shown(), self.applications.shown()]
     }
 
     #[inline]
@@ -378,7 +395,9 @@ impl Port {
             oper: self.control.oper,
             seqno: self.control.seqno,
             ackno: self.control.ackno,
-            shown: [self.groups.shown(), self.flow.shown(), self.applications.shown()],
+            groups: self.groups.released,
+            flow: self.flow.released,
+            applications: self.applications.released,
         }
     }
 
@@ -388,22 +407,22 @@ impl Port {
     }
 }
 
-/// None if the setting is equal to the present one, else whether the octets to
-/// be written changed.
+/// Whether the setting is different from the present one.
 fn change_one<P: Parameters>(
     feature: &mut Feature<P>,
     setting: &Setting,
     running: bool,
     seqno: u32,
-) -> Result<Option<bool>, u8> {
+) -> Result<bool, u8> {
     let setting = FeatureSetting::read(setting)?;
     if setting == feature.setting {
-        return Ok(None);
+        return Ok(false);
     }
     if running {
-        return Ok(Some(feature.change(setting, seqno)));
+        feature.change(setting, seqno);
+    } else {
+        feature.setting = setting;
+        feature.fresh(false);
     }
-    feature.setting = setting;
-    feature.fresh(false);
-    Ok(Some(false))
+    Ok(true)
 }

@@ -1,7 +1,8 @@
-//! What `desk` and `pair` have in common as programs: arguments, faults, and the
-//! standard streams (docs/FORMATS.md).
+//! What the programs have in common: arguments, faults, and the standard streams
+//! (docs/FORMATS.md).
 
-use crate::text::Fault;
+use crate::setup::{Behind, Failure};
+use crate::text::{Fault, Text};
 use std::ffi::OsStr;
 use std::fs::File;
 use std::io::{self, Write};
@@ -17,25 +18,52 @@ pub enum Source {
     File(File),
 }
 
-/// Does what the arguments ask for. What stops the work is told on standard error.
-pub fn start(name: &str, usage: &str, work: impl FnOnce(Source) -> Result<(), Fault>) {
+impl Source {
+    /// The input of the settings, what may stand behind them there, and the input of the rest if it is another.
+    pub fn inputs(self) -> Result<(File, Behind, Option<File>), Fault> {
+        match self {
+            Source::Standard => Ok((input()?, Behind::Anything, None)),
+            Source::File(file) => Ok((file, Behind::Nothing, Some(input()?))),
+        }
+    }
+}
+
+/// Does what the arguments ask for. The program tells itself why settings cannot be used;
+/// what else stops the work is told on standard error.
+pub fn start(
+    name: &str,
+    usage: &str,
+    bad_settings: impl Fn(&[u8]) -> Result<(), Fault>,
+    work: impl FnOnce(Source) -> Result<(), Failure>,
+) {
     let mut arguments = std::env::args_os().skip(1);
     let done = match (arguments.next(), arguments.next()) {
         (None, _) => work(Source::Standard),
-        (Some(only), None) if only == "--help" => say(usage.as_bytes()),
+        (Some(only), None) if only == "--help" => say(usage.as_bytes()).map_err(Failure::Fault),
         (Some(only), None) if may_be_file(&only) => match File::open(&only) {
             Ok(file) => work(Source::File(file)),
-            Err(_) => say(&[b"bad settings: ", only.as_bytes(), b" cannot be opened\n"].concat()),
+            Err(_) => {
+                let why = [b"bad settings: ", only.as_bytes(), b" cannot be opened\n"].concat();
+                bad_settings(&why).map_err(Failure::Fault)
+            }
         },
         _ => {
-            complain(usage);
+            tell(usage.as_bytes());
             Ok(())
         }
     };
+    let done = done.or_else(|failure| match failure {
+        Failure::Settings(bad) => {
+            let mut why = Text::default();
+            bad.tell(&mut why);
+            bad_settings(&why.0)
+        }
+        Failure::Fault(fault) => Err(fault),
+    });
     match done {
         Ok(()) => {}
-        Err(Fault::Read) => complain(&format!("{name}: cannot read\n")),
-        Err(Fault::Write) => complain(&format!("{name}: cannot write\n")),
+        Err(Fault::Read) => tell(format!("{name}: cannot read\n").as_bytes()),
+        Err(Fault::Write) => tell(format!("{name}: cannot write\n").as_bytes()),
     }
 }
 
@@ -45,13 +73,13 @@ fn may_be_file(argument: &OsStr) -> bool {
 }
 
 /// Writes to standard output.
-fn say(text: &[u8]) -> Result<(), Fault> {
+pub fn say(text: &[u8]) -> Result<(), Fault> {
     output()?.write_all(text).map_err(|_| Fault::Write)
 }
 
 /// Writes to standard error; where that fails, nobody is left to be told.
-fn complain(text: &str) {
-    let _ = io::stderr().write_all(text.as_bytes());
+pub fn tell(text: &[u8]) {
+    let _ = io::stderr().write_all(text);
 }
 
 /// Standard input. That of std takes some failures for the end.

@@ -1,9 +1,11 @@
 //! Rounds of two ends, and the outcome rules applied to two settings alone.
 
-use crate::layout::{Parameters, APPLICATIONS, LONGEST_FRAME, PRIORITY_GROUPS};
+use crate::events::OwnedSettings;
+use crate::layout::{Parameters, LONGEST_FRAME};
 use crate::outcome::{Feature, Peer, Reason};
 use crate::port::Port;
 use crate::recorder::Recorder;
+use crate::refusal::Refusal;
 use crate::settings::FeatureSetting;
 
 /// Two ports that exchange frames, each of a recorder of its own.
@@ -37,6 +39,17 @@ impl Ends {
         Ends { recorder: [a.0, b.0], port: [a.1, b.1] }
     }
 
+    /// Both ends as their settings, which are valid, make them.
+    pub fn create(settings: &[OwnedSettings; 2]) -> Self {
+        const PORT: u8 = 1;
+        let recorder = settings.each_ref().map(|settings| {
+            let mut recorder = Recorder::blank();
+            recorder.create(PORT, &settings.lend()).expect("valid settings");
+            recorder
+        });
+        Ends { recorder, port: [PORT; 2] }
+    }
+
     /// The port of end 0 or 1.
     pub fn end(&self, i: usize) -> &Port {
         self.recorder[i].port(self.port[i]).expect("a port's number")
@@ -44,6 +57,11 @@ impl Ends {
 
     pub fn ends(&self) -> [&Port; 2] {
         [self.end(0), self.end(1)]
+    }
+
+    /// A frame arrived at end 0 or 1.
+    pub fn frame(&mut self, to: usize, octets: &[u8]) -> Result<bool, Refusal> {
+        self.recorder[to].frame(self.port[to], octets)
     }
 
     /// Two writes, then two deliveries.
@@ -71,8 +89,7 @@ impl Ends {
             noise(self);
             if round.writes[from] && round.delivered[from] {
                 let frame = &octets[from][..length[from]];
-                let handled = self.recorder[to].frame(self.port[to], frame);
-                handled.expect("an accepted frame");
+                self.frame(to, frame).expect("an accepted frame");
             }
         }
         noise(self);
@@ -98,11 +115,7 @@ impl Ends {
 /// A peer is seen, RcvdAckNo = SeqNo, and every advertised feature is Syncd.
 pub fn settled(port: &Port) -> bool {
     let control = port.control();
-    control.peer_seen
-        && control.rcvdackno == control.seqno
-        && (PRIORITY_GROUPS..=APPLICATIONS)
-            .map(|feature| port.feature(feature))
-            .all(|feature| !feature.advertise || feature.syncd)
+    control.peer_seen && control.rcvdackno == control.seqno && !port.pending()
 }
 
 /// What the outcome rules give for two settings alone.

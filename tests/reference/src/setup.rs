@@ -51,10 +51,10 @@ impl From<Fault> for Failure {
     }
 }
 
-/// What may stand behind the settings of ports.
+/// What may stand behind the settings.
 #[derive(Clone, Copy, Debug, PartialEq, Eq)]
 pub enum Behind {
-    Events,
+    Anything,
     Nothing,
 }
 
@@ -79,10 +79,14 @@ type Split = fn(&[u8]) -> Line;
 /// The settings of two ends, whose lines name no port.
 pub fn two_ends<R: Read, W: Write>(
     lines: &mut Lines<R, W>,
+    behind: Behind,
     out: &mut Text,
 ) -> Result<[OwnedSettings; 2], Failure> {
     let a = one_port(lines, out, Line::without_port, &[])?;
     let b = one_port(lines, out, Line::without_port, &[])?;
+    if behind == Behind::Nothing {
+        nothing(lines, out)?;
+    }
     match a.refused.or(b.refused) {
         Some(bad) => Err(Failure::Settings(bad)),
         None => Ok([a.read.settings, b.read.settings]),
@@ -119,6 +123,16 @@ fn begins_settings<R: Read, W: Write>(
     let settings = matches!(first, Some(b"control" | b"applications"));
     lines.put_back();
     Ok(settings || behind == Behind::Nothing)
+}
+
+/// No line is left. Of one that is, no word can be read.
+fn nothing<R: Read, W: Write>(lines: &mut Lines<R, W>, out: &mut Text) -> Result<(), Failure> {
+    let Some((line, octets)) = lines.next(out)? else {
+        return Ok(());
+    };
+    let due = Unread::Word(1, Due::Word("control"));
+    let unread = words::whole(octets).err().unwrap_or(due);
+    Err(Failure::Settings(BadSettings { line, bad: Bad::Unread(unread) }))
 }
 
 /// The lines of one port, which none of the earlier ones is: four, or three of Rev 1.0.

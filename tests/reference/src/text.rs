@@ -1,4 +1,4 @@
-//! The text forms of docs/FORMATS.md, for the programs `desk` and `pair`.
+//! The text forms of docs/FORMATS.md.
 
 use crate::layout::{APPLICATIONS, FLOW_CONTROL, PRIORITY_GROUPS};
 use crate::outcome::Reason;
@@ -110,8 +110,8 @@ impl Text {
         self
     }
 
-    pub fn number(&mut self, number: impl Into<u32>) -> &mut Self {
-        let mut digits = [0; 10];
+    pub fn number(&mut self, number: impl Into<u64>) -> &mut Self {
+        let mut digits = [0; 20];
         let mut at = digits.len();
         let mut rest = number.into();
         loop {
@@ -126,8 +126,16 @@ impl Text {
     }
 
     /// A space, a word, a space and its number.
-    pub fn field(&mut self, name: &str, number: impl Into<u32>) -> &mut Self {
+    pub fn field(&mut self, name: &str, number: impl Into<u64>) -> &mut Self {
         self.put(" ").put(name).put(" ").number(number)
+    }
+
+    /// A line of numbers, parted by one space.
+    pub fn numbers(&mut self, numbers: &[u64]) -> &mut Self {
+        for (i, &number) in numbers.iter().enumerate() {
+            self.put(if i == 0 { "" } else { " " }).number(number);
+        }
+        self.put("\n")
     }
 
     /// A space, a word, and each number behind a space.
@@ -176,6 +184,17 @@ impl Text {
         self.field("willing", setting.willing);
         setting.parameters.put(self);
         self
+    }
+
+    /// The lines of settings of a port: four, or three of Rev 1.0.
+    pub fn settings_lines(&mut self, port: &Port) -> &mut Self {
+        self.control_line(port).put("\n");
+        self.settings_line(port.groups()).put("\n");
+        self.settings_line(port.flow()).put("\n");
+        match port.revision() {
+            Revision::R1_0 => self,
+            Revision::R1_01 => self.settings_line(port.applications()).put("\n"),
+        }
     }
 
     pub fn octets(&mut self, octets: &[u8]) -> &mut Self {
@@ -248,6 +267,16 @@ impl<R: Read, W: Write> Lines<R, W> {
         self.unread = 0..0;
         self.ended = false;
         self.count = 0;
+    }
+
+    /// The next octets, whatever lines they are of; none at the end of the input.
+    pub fn next_block(&mut self, out: &mut Text) -> Result<&[u8], Fault> {
+        if self.unread.is_empty() && !self.ended {
+            self.fill(out)?;
+        }
+        let block = self.unread.clone();
+        self.unread.start = block.end;
+        Ok(&self.buffer[block])
     }
 
     /// The line that was handed out last will be the next once more.

@@ -25,8 +25,11 @@ fn order_and_number_of_classes_count() {
     assert_eq!(port.feature(3).reason, Reason::Agreed);
     let one = hex("89 06 00 1b 21 08 89 14 00 1b 21 08");
     let other = hex("89 14 00 1b 21 08 89 06 00 1b 21 08");
-    assert_eq!(port.change(4, true, true, false, &one), Ok(true));
-    assert_eq!(port.change(4, true, true, false, &other), Ok(true));
+    // 2 is not acknowledged yet, so these wait.
+    assert_eq!(port.change(4, true, true, false, &one), Ok(false));
+    let before = port.dump();
+    assert_eq!(port.change(4, true, true, false, &other), Ok(false));
+    assert_ne!(port.dump(), before);
     assert_eq!(port.feature(4).opercfg, other);
     assert_eq!(port.change(4, true, true, false, &other), Ok(false));
 }
@@ -46,7 +49,7 @@ fn a_held_peer_is_judged_again() {
         assert_eq!(numbers(&port), (2, 1, 1));
         assert_eq!(notices(&mut port), [(10, number)]);
         // Willing now: the peer's configuration.
-        assert_eq!(port.change(number, true, true, true, &other_parameters(number)), Ok(true));
+        assert_eq!(port.change(number, true, true, true, &other_parameters(number)), Ok(false));
         let view = port.feature(number);
         assert_eq!((view.reason, view.error, view.mode), (Reason::Agreed, false, true));
         assert_eq!(view.opercfg, w2_parameters(number));
@@ -54,12 +57,14 @@ fn a_held_peer_is_judged_again() {
         assert_eq!((view.featureseqno, view.syncd), (3, false));
         assert_eq!(numbers(&port), (2, 1, 1));
         // Disabled.
-        assert_eq!(port.change(number, true, false, true, &other_parameters(number)), Ok(true));
+        assert_eq!(port.change(number, true, false, true, &other_parameters(number)), Ok(false));
         let view = port.feature(number);
         assert_eq!((view.reason, view.error, view.mode), (Reason::Disabled, false, false));
         assert_eq!(view.opercfg, other_parameters(number));
         assert_eq!(notices(&mut port), []);
-        // The other features stay.
+        // The frames carry the first change alone, and the other features stay.
+        let released = port.feature(number).released.unwrap();
+        assert_eq!((released[2], &released[4..]), (0xa0, &other_parameters(number)[..]));
         for other in (2..=4).filter(|&other| other != number) {
             assert_eq!(port.feature(other), settled_port().feature(other));
         }
@@ -88,8 +93,11 @@ fn without_a_peer_only_the_configuration_follows() {
         assert_eq!(before.reason, reason);
         let held = port.held();
         let (seqno, _, rcvdackno) = numbers(&port);
-        assert_eq!(port.change(3, true, false, true, &[0x10, 1]), Ok(true));
+        let sent = seqno == rcvdackno;
+        assert_eq!(port.change(3, true, false, true, &[0x10, 1]), Ok(sent));
         let after = port.feature(3);
+        assert_eq!(after.waits, !sent);
+        assert_eq!(after.released == before.released, !sent);
         assert_eq!(
             (after.reason, after.error, after.mode, after.oper),
             (before.reason, before.error, before.mode, before.oper)
@@ -98,7 +106,7 @@ fn without_a_peer_only_the_configuration_follows() {
         assert_eq!(after.opercfg, [0x10, 1]);
         assert!(!after.syncd);
         assert_eq!(after.featureseqno, seqno + 1);
-        assert_eq!(numbers(&port).0, if seqno == rcvdackno { seqno + 1 } else { seqno });
+        assert_eq!(numbers(&port).0, if sent { seqno + 1 } else { seqno });
         assert_eq!(port.held(), held);
     }
 }
@@ -127,23 +135,25 @@ fn withdrawn_and_advertised_again() {
         assert_eq!(port.change(number, false, true, false, parameters), Ok(true));
         let view = port.feature(number);
         assert_eq!((view.reason, view.mode, view.error), (Reason::NotAdvertised, true, false));
-        assert_eq!((view.featureseqno, view.syncd), (2, true));
         assert!(view.peer.is_none());
-        // SeqNo stays, but the frame is shorter.
-        assert_eq!(numbers(&port), (1, 1, 1));
-        assert!(written(&port).unwrap().len() < 57);
-        // Advertised again: SeqNo 1 is acknowledged, so 2 goes out.
-        assert_eq!(port.change(number, true, true, false, parameters), Ok(true));
-        let view = port.feature(number);
-        assert_eq!((view.reason, view.mode, view.error), (Reason::NoPeerYet, false, false));
+        // A withdrawal is a change: 1 is acknowledged, so 2 goes out, and the frame is shorter.
         assert_eq!((view.featureseqno, view.syncd), (2, false));
         assert_eq!(numbers(&port), (2, 1, 1));
-        // Once more while 2 is not acknowledged: 3 waits.
-        assert_eq!(port.change(number, false, true, false, parameters), Ok(true));
+        let short = written(&port).unwrap();
+        assert!(short.len() < 57);
+        // Advertised again while 2 is not acknowledged: 3 waits.
+        assert_eq!(port.change(number, true, true, false, parameters), Ok(false));
+        let view = port.feature(number);
+        assert_eq!((view.reason, view.mode, view.error), (Reason::NoPeerYet, false, false));
+        assert_eq!((view.featureseqno, view.syncd), (3, false));
+        assert_eq!(numbers(&port), (2, 1, 1));
+        // Once more.
+        assert_eq!(port.change(number, false, true, false, parameters), Ok(false));
         assert_eq!(port.feature(number).featureseqno, 3);
-        assert_eq!(port.change(number, true, true, false, parameters), Ok(true));
+        assert_eq!(port.change(number, true, true, false, parameters), Ok(false));
         assert_eq!(port.feature(number).featureseqno, 3);
         assert_eq!(numbers(&port), (2, 1, 1));
+        assert_eq!(written(&port).unwrap(), short);
         // Oper goes back to Max when withdrawn.
         let mut settings = w2_settings();
         settings.feature[usize::from(number) - 2].0 = 5;
@@ -162,10 +172,15 @@ fn the_last_pending_feature_withdrawn() {
     settings.feature[0].1.advertise = false;
     settings.feature[2].1.advertise = false;
     let mut port = common::port(&settings);
-    port.change(3, false, true, false, &FLOW).unwrap();
+    assert_eq!(port.change(3, false, true, false, &FLOW), Ok(false));
     assert_eq!(numbers(&port), (1, 0, 0));
     assert_eq!(port.frame(&frame(&sub_tlvs(4, 1, 0x80))), Ok(true));
-    assert_eq!(numbers(&port), (1, 4, 1));
+    // The withdrawal goes out, and is acknowledged.
+    assert_eq!(numbers(&port), (2, 4, 1));
+    assert_eq!(written(&port).unwrap().len(), 18);
+    assert_eq!(port.frame(&frame(&sub_tlvs(4, 2, 0x80))), Ok(false));
+    assert_eq!(numbers(&port), (2, 4, 2));
+    assert!(port.feature(3).syncd);
 }
 
 #[test]
@@ -196,7 +211,8 @@ fn a_stopped_port_stores_the_setting() {
 fn changes_while_several_neighbours_are_flagged() {
     let mut port = settled_port();
     port.set_flag(Flag::SeveralNeighbours, true);
-    assert_eq!(port.change(3, true, true, true, &FLOW), Ok(true));
+    assert_eq!(port.change(3, true, true, true, &FLOW), Ok(false));
     assert_eq!(port.feature(3).featureseqno, 2);
+    assert!(port.feature(3).waits);
     assert_eq!(numbers(&port), (1, 0, 0));
 }

@@ -58,9 +58,20 @@ fn happened(event: &Event, before: &Port, after: &Port, mut count: impl FnMut(&'
                 _ if was.peer.is_some() => "change: held peer",
                 _ => "change: no peer",
             });
-            if is.advertise && before.running() && was != is {
+            if (was.advertise || is.advertise) && before.running() && was != is {
                 let now = before.control().seqno != after.control().seqno;
                 count(if now { "change: SeqNo at once" } else { "change: SeqNo waits" });
+                match (was.advertise, is.advertise) {
+                    (true, false) if is.waits => count("change: a withdrawal waits"),
+                    (true, false) if !now => count("change: withdrawn before its release"),
+                    (false, true) if is.waits && is.released.is_none() => {
+                        count("change: an added feature waits");
+                    }
+                    (false, true) if !now => count("change: added again before its release"),
+                    _ if was.waits && is.waits => count("change: another while one waits"),
+                    _ if was.waits && !now => count("change: back to what was released"),
+                    _ => {}
+                }
             }
         }
         Event::Frame(octets) => {
@@ -93,8 +104,18 @@ fn happened(event: &Event, before: &Port, after: &Port, mut count: impl FnMut(&'
                 if !is_setting(number, &is.opercfg) {
                     count("frame: OperCfg that no setting could have");
                 }
-                if is.advertise && !is.syncd && is.featureseqno != after.control().seqno {
+                if !is.syncd && is.featureseqno != after.control().seqno {
                     count("frame: change still waits");
+                }
+                if was.waits && !is.waits {
+                    count("frame: released");
+                }
+                if !was.advertise && !was.syncd {
+                    count(if is.syncd {
+                        "frame: withdrawal acknowledged"
+                    } else {
+                        "frame: withdrawal not acknowledged yet"
+                    });
                 }
             }
             if received != layout::read(octets, Revision::R1_01).unwrap() {
@@ -153,7 +174,7 @@ fn lawful(port: &Port) {
     let mut pending = false;
     for number in 2..=4 {
         let f = port.feature(number);
-        pending |= f.advertise && !f.syncd;
+        pending |= !f.syncd;
         assert_eq!(f.reason == Reason::NotAdvertised, !f.advertise);
         let error = matches!(
             f.reason,
@@ -172,8 +193,10 @@ fn lawful(port: &Port) {
         assert_eq!(f.opercfg, *config);
         assert!(f.oper <= f.max);
         if !f.advertise {
-            assert!(f.syncd && f.oper == f.max);
+            assert_eq!(f.oper, f.max);
         }
+        // A sub-TLV that is Syncd is the one released, and none waits at a stopped port.
+        assert!(!(f.waits && (f.syncd || !port.running())));
     }
     assert!(control.oper <= control.max);
     if port.running() {
@@ -369,8 +392,8 @@ fn all_occur_and_all_is_kept() {
     // The six kinds of writer, and ties.
     assert_eq!(counts.drops.len(), 7);
     assert!(counts.drops.values().all(|&count| count > 100));
-    // Ten kinds of change, eighteen of frame, and synced.
-    assert_eq!(counts.rare.len(), 29);
+    // Sixteen kinds of change, twenty-one of frame, and synced.
+    assert_eq!(counts.rare.len(), 38);
     assert!(counts.rare.values().all(|&count| count > 100));
 }
 

@@ -129,7 +129,7 @@ fn swapping_the_ends_swaps_what_they_settle_on() {
         let b = random::settings_near(&mut rng, &a);
         let (mut before, mut swapped) = (ends(&a, &b), ends(&b, &a));
         for ends in [&mut before, &mut swapped] {
-            for _ in 0..5 + rng.below(3) {
+            for _ in 0..6 + rng.below(3) {
                 ends.round_with(Round::whole(rng.below(2) as usize), |_, _| {});
             }
             assert!(one_mode_and_error(ends), "pair {i}");
@@ -137,7 +137,7 @@ fn swapping_the_ends_swaps_what_they_settle_on() {
         for end in 0..2 {
             assert!(same(before.end(end), swapped.end(1 - end)), "pair {i}");
         }
-        // With losses, each end that is settled.
+        // With losses, if both ends are settled.
         let mut losing = ends(&b, &a);
         for _ in 0..rng.below(12) {
             let round = Round {
@@ -146,12 +146,14 @@ fn swapping_the_ends_swaps_what_they_settle_on() {
                 delivered: [rng.percent(60), rng.percent(60)],
             };
             losing.round_with(round, |_, _| {});
-            for end in (0..2).filter(|&end| settled(losing.end(end))) {
-                assert!(same(before.end(1 - end), losing.end(end)), "pair {i}");
+            if losing.ends().into_iter().all(settled) {
+                for end in 0..2 {
+                    assert!(same(before.end(1 - end), losing.end(end)), "pair {i}");
+                }
                 lossy += 1;
             }
         }
     }
-    println!("{pairs} pairs, and {lossy} settled ends with losses");
+    println!("{pairs} pairs, and both ends settled {lossy} times with losses");
     assert!(lossy > pairs);
 }

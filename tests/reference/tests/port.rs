@@ -182,7 +182,7 @@ fn acknowledgements() {
     assert!((2..=4).all(|n| port.feature(n).syncd));
     assert_eq!(numbers(&port), (1, 1, 0));
     // A change now waits for the acknowledgement of 1.
-    assert_eq!(port.change(3, true, true, true, &FLOW), Ok(true));
+    assert_eq!(port.change(3, true, true, true, &FLOW), Ok(false));
     assert_eq!(numbers(&port), (1, 1, 0));
     assert_eq!(port.frame(&frame(&sub_tlvs(1, 1, 0x80))), Ok(true));
     assert_eq!(numbers(&port), (2, 1, 1));

@@ -61,6 +61,39 @@ fn a_failed_read_is_not_the_end() {
     assert_eq!((&written[..], end), (&b"1 one\n"[..], Err(Fault::Read)));
 }
 
+/// What comes behind one line, block by block, and how it ended.
+fn blocks<const N: usize>(
+    parts: [Result<&'static [u8], ErrorKind>; N],
+) -> (Vec<Vec<u8>>, Result<(), Fault>) {
+    let mut lines = Lines::new(Parts(parts.into()), Vec::new());
+    let mut out = Text::default();
+    let mut blocks = Vec::new();
+    assert_eq!(lines.next(&mut out), Ok(Some((1, &b"one"[..]))));
+    loop {
+        match lines.next_block(&mut out) {
+            Ok([]) => return (blocks, Ok(())),
+            Ok(block) => blocks.push(block.to_vec()),
+            Err(fault) => return (blocks, Err(fault)),
+        }
+    }
+}
+
+#[test]
+fn blocks_begin_right_behind_a_line() {
+    let told = blocks([Ok(b"o"), Ok(b"ne\n\n# tw"), Ok(b"o"), Ok(b"\n")]);
+    assert_eq!(told, (vec![b"\n# tw".to_vec(), b"o".to_vec(), b"\n".to_vec()], Ok(())));
+    let told = blocks([Ok(b"one\n"), Ok(b"two")]);
+    assert_eq!(told, (vec![b"two".to_vec()], Ok(())));
+    assert_eq!(blocks([Ok(b"one")]), (vec![], Ok(())));
+}
+
+#[test]
+fn blocks_know_a_failure_from_the_end() {
+    let told =
+        blocks([Ok(b"one\n"), Err(ErrorKind::Interrupted), Ok(b"A "), Err(ErrorKind::Other)]);
+    assert_eq!(told, (vec![b"A ".to_vec()], Err(Fault::Read)));
+}
+
 /// An output that takes nothing.
 struct Shut;
 

@@ -6,8 +6,8 @@ use reference::rng::XorShift;
 use reference::setup::{self, Bad, Behind, Failure, PortSettings};
 use reference::text::{Lines, Text};
 use reference::why::why;
-use reference::words::Unread;
-use reference::{refusal, Port, Recorder, Revision, Setting};
+use reference::words::{Due, Unread};
+use reference::{refusal, Recorder, Setting};
 
 /// Whether a recorder refuses such a setting with 9.
 fn refused(feature: u8, parameters: &[u8]) -> bool {
@@ -41,18 +41,6 @@ fn all_of_flow_control_has_its_reason() {
     }
 }
 
-/// The lines of settings that `show` has of a port: four, or three of Rev 1.0.
-fn lines(port: &Port) -> Vec<u8> {
-    let mut text = Text::default();
-    text.control_line(port).put("\n");
-    text.settings_line(port.groups()).put("\n");
-    text.settings_line(port.flow()).put("\n");
-    if port.revision() == Revision::R1_01 {
-        text.settings_line(port.applications()).put("\n");
-    }
-    text.0
-}
-
 fn read(lines: &[u8]) -> Result<Vec<PortSettings>, Failure> {
     let mut lines = Lines::new(lines, Vec::new());
     setup::ports(&mut lines, Behind::Nothing, &mut Text::default())
@@ -63,8 +51,9 @@ fn random_lines(rng: &mut XorShift) -> (OwnedSettings, Vec<u8>) {
     let settings = random::settings(rng);
     let mut recorder = Recorder::blank();
     recorder.create(1, &settings.lend()).expect("valid settings");
-    let lines = lines(recorder.port(1).expect("a port"));
-    (settings, lines)
+    let mut lines = Text::default();
+    lines.settings_lines(recorder.port(1).expect("a port"));
+    (settings, lines.0)
 }
 
 #[test]
@@ -106,5 +95,43 @@ fn unread_word(text: &str) -> (usize, usize) {
             other => panic!("{other:?}"),
         },
         _ => panic!("these can be read: {text}"),
+    }
+}
+
+/// Two ends, whose lines may stand beside others or not.
+#[test]
+fn behind_two_ends() {
+    let mut rng = XorShift::new(12);
+    for _ in 0..500 {
+        let ends = [random_lines(&mut rng), random_lines(&mut rng)];
+        let count = |lines: &[u8]| lines.iter().filter(|&&octet| octet == b'\n').count() as u32;
+        let text = [&b"# two\n\n"[..], &ends[0].1, b"# B\n", &ends[1].1].concat();
+        for (more, unread) in [
+            ("", None),
+            ("\n# nothing\n", None),
+            ("A 00\n", Some(Unread::Word(1, Due::Word("control")))),
+            ("# one\n\nshow\r\n", Some(Unread::CarriageReturn)),
+        ] {
+            let all = [&text, more.as_bytes()].concat();
+            let mut lines = Lines::new(&all[..], Vec::new());
+            let out = &mut Text::default();
+            let nothing = setup::two_ends(&mut lines, Behind::Nothing, out);
+            match (nothing, unread) {
+                (Ok(read), None) => {
+                    assert_eq!(read[0].lend(), ends[0].0.lend());
+                    assert_eq!(read[1].lend(), ends[1].0.lend());
+                }
+                (Err(Failure::Settings(bad)), Some(unread)) => {
+                    let line = count(&text) + count(more.as_bytes());
+                    assert_eq!((bad.line, bad.bad), (line, Bad::Unread(unread)));
+                }
+                (other, _) => panic!("{other:?}"),
+            }
+            // What stands behind is not read as lines, and all of it comes.
+            let mut lines = Lines::new(&all[..], Vec::new());
+            assert!(setup::two_ends(&mut lines, Behind::Anything, out).is_ok());
+            assert_eq!(lines.next_block(out), Ok(more.as_bytes()));
+            assert_eq!(lines.next_block(out), Ok(&b""[..]));
+        }
     }
 }

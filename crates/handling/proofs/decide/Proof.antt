@@ -25,20 +25,14 @@ waits-requires-2 c κs = search needs
 waits-requires-3 : tie.Need-waits-requires-3
 waits-requires-3 c κs = search needs
 
+raises-seq-requires : tie.Need-raises-seq-requires
+raises-seq-requires c κs = search needs
+
 count-requires : tie.Need-count-requires
 count-requires c κs = search needs
 
 same-control-requires : tie.Need-same-control-requires
 same-control-requires c κs = search needs
-
-changes-requires : tie.Need-changes-requires
-changes-requires c κs = search needs
-
-changes-requires-2 : tie.Need-changes-requires-2
-changes-requires-2 c κs = search needs
-
-changes-requires-3 : tie.Need-changes-requires-3
-changes-requires-3 c κs = search needs
 
 newly-marked-requires : tie.Need-newly-marked-requires
 newly-marked-requires c κs = search needs
@@ -54,12 +48,9 @@ notice-requires-3 c κs = search needs
 
 returns : tie.Need-returns
 returns c =
-    decide-is _ _ _ (c .before .before .before .before .before .before .before .before .before .before .before .before .before .before .before .before .before .before .pre .1) (c .before .before .before .before .before .before .before .before .before .before .before .before .before .before .before .hear .ensures) (c .before .before .before .before .before .before .before .before .before .before .before .before .before .turn-of-groups .ensures)
-    (c .before .before .before .before .before .before .before .before .before .before .before .before .turn-of-flow .ensures) (c .before .before .before .before .before .before .before .before .before .before .before .before .before .before .turn-of-applications .ensures) (c .before .before .before .before .before .before .before .before .before .before .before .waits .ensures)
-    (c .before .before .before .before .before .before .before .before .before .before .waits2 .ensures) (c .before .before .before .before .before .before .before .before .before .waits3 .ensures) (c .before .before .before .before .before .before .before .before .count .ensures)
-    (c .before .before .before .before .before .before .before .same-control .ensures) (c .before .before .before .before .before .before .changes .ensures) (c .before .before .before .before .before .changes2 .ensures)
-    (c .before .before .before .before .changes3 .ensures) (c .before .before .before .newly-marked .ensures) (c .before .before .notice .ensures)
-    (c .before .notice2 .ensures) (c .notice3 .ensures)
+    decide-is _ _ _ (c .before .before .before .before .before .before .before .before .before .before .before .before .before .before .before .before .pre .1) (c .before .before .before .before .before .before .before .before .before .before .before .before .before .hear .ensures) (c .before .before .before .before .before .before .before .before .before .before .before .turn-of-groups .ensures) (c .before .before .before .before .before .before .before .before .before .before .turn-of-flow .ensures)
+    (c .before .before .before .before .before .before .before .before .before .before .before .before .turn-of-applications .ensures) (c .before .before .before .before .before .before .before .before .before .waits .ensures) (c .before .before .before .before .before .before .before .before .waits2 .ensures) (c .before .before .before .before .before .before .before .waits3 .ensures)
+    (c .before .before .before .before .before .before .raises-seq .ensures) (c .before .before .before .before .before .count .ensures) (c .before .before .before .before .same-control .ensures) (c .before .before .before .newly-marked .ensures) (c .before .before .notice .ensures) (c .before .notice2 .ensures) (c .notice3 .ensures)
 
 pub decide-spec : {M : Type 1} → statement M
 decide-spec =
@@ -72,11 +63,9 @@ decide-spec =
     waits-requires
     waits-requires-2
     waits-requires-3
+    raises-seq-requires
     count-requires
     same-control-requires
-    changes-requires
-    changes-requires-2
-    changes-requires-3
     newly-marked-requires
     notice-requires
     notice-requires-2

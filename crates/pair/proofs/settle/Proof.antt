@@ -8,7 +8,7 @@ abbrev Inv-loop : tie.InvT-loop
 Inv-loop ends₀ rounds₀ ends rounds = Unit {0}
 
 abbrev μ-loop : tie.MeasureT-loop
-μ-loop ends₀ rounds₀ ends rounds = 5 - rounds
+μ-loop ends₀ rounds₀ ends rounds = 6 - rounds
 
 empty-requires : tie.Need-empty-requires Inv-loop μ-loop
 empty-requires c κs = search needs

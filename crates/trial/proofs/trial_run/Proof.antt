@@ -73,7 +73,7 @@ element-set-from-port : tie.Need-element-set-from-port Inv-loop μ-loop
 element-set-from-port c = search needs
 
 loop-less-2 : tie.Need-loop-less-2 Inv-loop μ-loop
-loop-less-2 c = search needs
+loop-less-2 c = search (needs, c .before .before .before .before .before .before .before .before .before .before .before .before .before .before)
 
 loop-again-2 : tie.Need-loop-again-2 Inv-loop μ-loop
 loop-again-2 c = search (needs, c .before .before .before, c .before .before .before .before .before .before .before .before .before .before .before .before .before .before)

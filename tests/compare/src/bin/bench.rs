@@ -4,7 +4,7 @@
 //! beside the same call at a port alone. `make bench` from the top.
 //! Words behind `bench` name the rows to be measured, each by its start.
 
-use compare::{engine, script};
+use compare::{engine, programs, script, words};
 use reference::events::{OwnedSetting, OwnedSettings};
 use reference::layout::{self, Found, LONGEST_FRAME};
 use reference::{Recorder, Revision, PORTS};
@@ -242,22 +242,26 @@ fn ports() {
     }
 }
 
+/// The settings of one port as lines.
+const SETTINGS: &str = "\
+control max 0
+groups max 0 advertise 1 enable 1 willing 0 priorities 0 0 0 1 0 0 0 0 percentages 50 50 0 0 0 0 0 0 classes 2
+flow max 0 advertise 1 enable 1 willing 0 mask 08 classes 8
+applications max 0 advertise 1 enable 1 willing 0 ethertype 8906 08
+";
+
+/// Frames in hex: those with the same mask, and those of which each second has another.
+fn hex_frames() -> [Vec<String>; 2] {
+    [None, Some(1)].map(|clash| {
+        let (frames, size) = frames(&settings(1), clash);
+        frames.chunks_exact(size).map(words::hex).collect()
+    })
+}
+
 /// A million events: frames, writes, changes of settings, flags and takes.
 fn desk_input() -> Vec<u8> {
-    let settings = settings(1);
-    let (plain, size) = frames(&settings, None);
-    let (clashing, _) = frames(&settings, Some(1));
-    let hex = |frame: &[u8]| -> String { frame.iter().map(|o| format!("{o:02x}")).collect() };
-    let plain: Vec<String> = plain.chunks_exact(size).map(hex).collect();
-    let clashing: Vec<String> = clashing.chunks_exact(size).map(hex).collect();
-    let switches = "advertise 1 enable 1 willing 0";
-    let mut text = format!(
-        "control max 0\n\
-         groups max 0 {switches} priorities 0 0 0 1 0 0 0 0 percentages 50 50 0 0 0 0 0 0 classes 2\n\
-         flow max 0 {switches} mask 08 classes 8\n\
-         applications max 0 {switches} ethertype 8906 08\n"
-    )
-    .into_bytes();
+    let [plain, clashing] = hex_frames();
+    let mut text = SETTINGS.as_bytes().to_vec();
     for i in 0..LINES {
         let frame = i / 20 % FRAMES;
         match i % 20 {
@@ -285,35 +289,36 @@ fn run(program: &Path, input: &Path) -> Vec<u8> {
     output.stdout
 }
 
-fn desks() {
-    let root = Path::new(env!("CARGO_MANIFEST_DIR"));
-    let ours = root.join("../../target/bin/desk");
-    let theirs = root.join("../reference/target/release/desk");
-    if !wanted("desk") {
-        return;
+/// Measures a program over an input of so many lines, if it is wanted and built: nanoseconds a line, at both sides.
+fn program(name: &str, line: &str, lines: impl FnOnce() -> Vec<u8>) -> Option<[f64; 2]> {
+    if !wanted(name) {
+        return None;
     }
+    let [ours, theirs] = programs(name);
     if !ours.exists() || !theirs.exists() {
-        println!("desk: not measured, {} or {} is not built", ours.display(), theirs.display());
-        return;
+        println!("{name}: not measured, {} or {} is not built", ours.display(), theirs.display());
+        return None;
     }
-    let input = root.join("target/desk.in");
-    std::fs::write(&input, desk_input()).expect("the input");
+    let input =
+        Path::new(env!("CARGO_MANIFEST_DIR")).join("target").join(name).with_extension("in");
+    std::fs::write(&input, lines()).expect("the input");
     let mut best = [Duration::MAX; 2];
     for _ in 0..5 {
         let (first, a) = time(|| run(&ours, &input));
         let (second, b) = time(|| run(&theirs, &input));
-        assert!(a == b, "the desks answer differently");
+        assert!(a == b, "{name}: the two write different answers");
         best = [best[0].min(first), best[1].min(second)];
     }
     std::fs::remove_file(&input).expect("the input");
     let [engine, reference] = best.map(|time| time.as_nanos() as f64 / LINES as f64);
-    row("desk, a line", engine, reference, "2.0");
+    row(&format!("{name}, {line}"), engine, reference, "2.0");
+    Some([engine, reference])
 }
 
 fn main() {
     heading("engine", "reference");
     engines();
-    desks();
+    program("desk", "a line", desk_input);
     println!();
     heading("four ports", "alone");
     ports();

@@ -4,7 +4,7 @@ use compare::{Step, What};
 use reference::events::{Answer, Event};
 use reference::layout::{self, Found, APPLICATIONS};
 use reference::why::why;
-use reference::{Log, Notice, Port, Reason, Recorder, Revision};
+use reference::{Log, Notice, Port, Reason, Recorder, Revision, View};
 
 /// How often what has occurred.
 #[derive(Debug, Default)]
@@ -18,6 +18,8 @@ pub struct Coverage {
     notices: [u32; 11],
     broken_controls: BrokenControls,
     old_ports: OldPorts,
+    /// By feature.
+    waiting: [Waiting; 3],
     dropped_by: DroppedBy,
     /// A dropped count that stayed at its end, by port.
     dropped_stayed: [u32; 4],
@@ -110,6 +112,86 @@ impl OldPorts {
     }
 }
 
+/// What became of changes that wait for an acknowledgement (document 02, E5), at one feature.
+#[derive(Clone, Copy, Debug, Default)]
+struct Waiting {
+    /// The first change that waits, a further one, and back to what was released.
+    changed: u32,
+    changed_again: u32,
+    changed_back: u32,
+    added: u32,
+    added_back: u32,
+    withdrawn: u32,
+    withdrawn_back: u32,
+    /// Oper or Error, by a frame.
+    outcome: u32,
+    /// What waited was released: with a new SeqNo, of these with 0 behind the highest, and in a fresh state.
+    released: u32,
+    released_at_the_wrap: u32,
+    released_fresh: u32,
+    /// A withdrawal was released at once, a frame did not acknowledge one, and one did.
+    withdrawn_at_once: u32,
+    withdrawal_stays: u32,
+    withdrawal_acknowledged: u32,
+}
+
+impl Waiting {
+    fn note(&mut self, event: &Event, ports: [&Port; 2], views: &[View; 2]) {
+        let [was, is] = views;
+        let [old, new] = ports.map(|port| port.control().seqno);
+        if !ports.iter().all(|port| port.running()) {
+            return;
+        }
+        let stays = old == new;
+        let count = match (event, was.advertise, is.advertise) {
+            _ if was.waits && !is.waits && !stays => {
+                self.released_at_the_wrap += u32::from(old == u32::MAX && new == 0);
+                &mut self.released
+            }
+            (Event::Change { .. }, false, true) if is.waits => &mut self.added,
+            (Event::Change { .. }, false, true) if stays => &mut self.added_back,
+            (Event::Change { .. }, true, false) if is.waits => &mut self.withdrawn,
+            (Event::Change { .. }, true, false) if stays => &mut self.withdrawn_back,
+            (Event::Change { .. }, true, false) => &mut self.withdrawn_at_once,
+            (Event::Change { .. }, ..) if was == is => return,
+            (Event::Change { .. }, ..) if is.waits && was.waits => &mut self.changed_again,
+            (Event::Change { .. }, ..) if is.waits => &mut self.changed,
+            (Event::Change { .. }, ..) if was.waits => &mut self.changed_back,
+            (Event::Frame(_), true, _) if is.waits && !was.waits => &mut self.outcome,
+            (Event::Frame(_), false, _) if is.syncd && !was.syncd => {
+                &mut self.withdrawal_acknowledged
+            }
+            (Event::Frame(_), false, _) if !is.syncd => &mut self.withdrawal_stays,
+            (Event::PeerGone | Event::SetFlag(..), ..) if was.waits && !is.waits => {
+                &mut self.released_fresh
+            }
+            _ => return,
+        };
+        *count += 1;
+    }
+
+    fn all_occurred(&self) -> bool {
+        [
+            self.changed,
+            self.changed_again,
+            self.changed_back,
+            self.added,
+            self.added_back,
+            self.withdrawn,
+            self.withdrawn_back,
+            self.outcome,
+            self.released,
+            self.released_at_the_wrap,
+            self.released_fresh,
+            self.withdrawn_at_once,
+            self.withdrawal_stays,
+            self.withdrawal_acknowledged,
+        ]
+        .iter()
+        .all(|&count| count > 0)
+    }
+}
+
 /// Whose write found the log full.
 #[derive(Debug, Default)]
 struct DroppedBy {
@@ -161,7 +243,7 @@ impl Coverage {
         if let (What::Event(event), Ok(was), Ok(is)) =
             (&step.what, before.port(step.port), after.port(step.port))
         {
-            self.note_port(was, is);
+            self.note_port(event, was, is);
             self.broken_controls.note(event, answer.refusal, was, is);
             self.old_ports.note(event, answer.refusal, is);
             self.note_log(before.log(), &answer.raised);
@@ -178,12 +260,14 @@ impl Coverage {
     }
 
     /// What an event did to its port.
-    fn note_port(&mut self, before: &Port, after: &Port) {
+    fn note_port(&mut self, event: &Event, before: &Port, after: &Port) {
         if before.control().seqno == u32::MAX && after.control().seqno == 0 {
             self.seqno_wrapped += u32::from(after.control().rcvdackno == u32::MAX);
         }
-        for (became, number) in self.became.iter_mut().zip(2..) {
-            let (was, is) = (before.feature(number), after.feature(number));
+        for ((became, waiting), number) in self.became.iter_mut().zip(&mut self.waiting).zip(2..) {
+            let views = [before.feature(number), after.feature(number)];
+            waiting.note(event, [before, after], &views);
+            let [was, is] = views;
             if was.reason != is.reason {
                 became[is.reason as usize] += 1;
             }
@@ -216,6 +300,7 @@ impl Coverage {
         assert!(self.notices[1..].iter().all(|&count| count > 0), "{self:#?}");
         assert!(self.broken_controls.all_occurred(), "{self:#?}");
         assert!(self.old_ports.all_occurred(), "{self:#?}");
+        assert!(self.waiting.iter().all(Waiting::all_occurred), "{self:#?}");
         for reason in Reason::ALL {
             let each = self.became.map(|counts| counts[reason as usize]);
             assert!(each.iter().all(|&count| count > 0), "{reason:?} {self:#?}");

@@ -1,14 +1,14 @@
 //! A recorder at a desk: settings of its ports, then events, each answered (docs/FORMATS.md).
 
+use reference::capture::{self, Sender};
 use reference::program::{self, Source};
-use reference::setup::{self, Behind, Failure, PortSettings};
-use reference::text::{self, Fault, InWords, Lines, Text};
+use reference::setup::{self, Failure, PortSettings};
+use reference::text::{self, InWords, Lines, Text};
 use reference::why::{why, Why};
 use reference::words::{self, By, Due, Line, Switches, Unread, Words};
 use reference::{refusal, Feature, Flag, Log, Port, Recorder, Refusal, Revision, Setting};
 
-/// The most octets of a frame, of parameters and of an output that a line names.
-const FRAME: usize = 513;
+/// The most octets of parameters and of an output that a line names.
 const PARAMETERS: usize = 507;
 const ROOM: usize = 1000;
 
@@ -82,11 +82,9 @@ impl Desk {
 
     /// Does what a line says.
     fn read(&mut self, line: Line, out: &mut Text) -> Result<(), Unread> {
-        if let Some(hex) = line.behind.strip_prefix(b"B ") {
-            if words::octets(hex, FRAME, &mut self.octets).is_some() {
-                self.event(out, |recorder, port, octets| recorder.frame(port, octets));
-                return Ok(());
-            }
+        if capture::frame(line.behind, &mut self.octets) == Some(Sender::B) {
+            self.event(out, |recorder, port, octets| recorder.frame(port, octets));
+            return Ok(());
         }
         let mut words = line.words();
         match words.next_word() {
@@ -261,6 +259,19 @@ fn show_feature<P: InWords>(feature: &Feature<P>, out: &mut Text) {
         }
     };
     out.put(name).put(" opercfg").configuration(&feature.opercfg).put("\n");
+    if feature.waits() {
+        out.put(name).put(" waits released");
+        match &feature.released {
+            None => out.put(" none\n"),
+            Some(released) => {
+                out.field("oper", released.oper);
+                out.field("enable", released.enable);
+                out.field("willing", released.willing);
+                out.field("error", released.error);
+                out.configuration(&released.parameters).put("\n")
+            }
+        };
+    }
 }
 
 fn show<'a>(number: u8, port: &Port, log: &Log, out: &'a mut Text) -> &'a mut Text {
@@ -291,22 +302,11 @@ fn show<'a>(number: u8, port: &Port, log: &Log, out: &'a mut Text) -> &'a mut Te
     out
 }
 
-fn run(source: Source) -> Result<(), Fault> {
-    let (input, events) = match source {
-        Source::Standard => (program::input()?, None),
-        Source::File(file) => (file, Some(program::input()?)),
-    };
-    let behind = if events.is_some() { Behind::Nothing } else { Behind::Events };
+fn run(source: Source) -> Result<(), Failure> {
+    let (input, behind, events) = source.inputs()?;
     let mut lines = Lines::new(input, program::output()?);
     let mut out = Text::default();
-    let ports = match setup::ports(&mut lines, behind, &mut out) {
-        Ok(ports) => ports,
-        Err(Failure::Settings(bad)) => {
-            bad.tell(&mut out);
-            return lines.write(&mut out);
-        }
-        Err(Failure::Fault(fault)) => return Err(fault),
-    };
+    let ports = setup::ports(&mut lines, behind, &mut out)?;
     if let Some(events) = events {
         lines.turn_to(events);
     }
@@ -314,9 +314,9 @@ fn run(source: Source) -> Result<(), Fault> {
     while let Some((number, line)) = lines.next(&mut out)? {
         desk.line(line, number, &mut out);
     }
-    lines.write(&mut out)
+    Ok(lines.write(&mut out)?)
 }
 
 fn main() {
-    program::start("desk", USAGE, run);
+    program::start("desk", USAGE, program::say, run);
 }

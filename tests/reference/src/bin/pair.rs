@@ -1,17 +1,14 @@
 //! Will two boxes agree? Settings of two ends, then the report (docs/FORMATS.md).
 
-use reference::events::OwnedSettings;
 use reference::layout::{APPLICATIONS, FLOW_CONTROL, PRIORITY_GROUPS};
 use reference::program::{self, Source};
 use reference::rounds::{settled, Ends};
-use reference::setup::{self, Failure};
-use reference::text::{self, Fault, InWords, Lines, Text};
-use reference::{Feature, Log, Parameters, Port, Recorder, Revision};
+use reference::setup::{self, Behind, Failure};
+use reference::text::{self, InWords, Lines, Text};
+use reference::{Feature, Parameters, Revision};
 
 /// Rounds that are always enough.
-const ENOUGH: u32 = 5;
-/// Each end is this port of a recorder of its own.
-const PORT: u8 = 1;
+const ENOUGH: u32 = 6;
 
 const USAGE: &str = "\
 usage: pair [FILE]
@@ -41,7 +38,8 @@ fn report_feature<P: InWords>(end: &str, feature: &Feature<P>, out: &mut Text) {
     out.put(":").configuration(&feature.opercfg).put("\n");
 }
 
-fn report_end(end: &str, port: &Port, log: &Log, out: &mut Text) {
+fn report_end(end: &str, ends: &Ends, i: usize, out: &mut Text) {
+    let port = ends.end(i);
     out.put(end).put(" control");
     out.field("version", port.control().oper).revision(port).put("\n");
     report_feature(end, port.groups(), out);
@@ -49,7 +47,7 @@ fn report_end(end: &str, port: &Port, log: &Log, out: &mut Text) {
     if port.revision() == Revision::R1_01 {
         report_feature(end, port.applications(), out);
     }
-    for notice in log.of(PORT) {
+    for notice in ends.recorder[i].log().of(ends.port[i]) {
         out.put(end).put(" ").notice(notice);
     }
 }
@@ -112,39 +110,27 @@ fn first_line(ends: &Ends, rounds: u32, out: &mut Text) {
 
 fn report(ends: &Ends, rounds: u32, out: &mut Text) {
     first_line(ends, rounds, out);
-    report_end("A", ends.end(0), ends.recorder[0].log(), out);
-    report_end("B", ends.end(1), ends.recorder[1].log(), out);
+    report_end("A", ends, 0, out);
+    report_end("B", ends, 1, out);
 }
 
-fn recorder(settings: &OwnedSettings) -> (Recorder, u8) {
-    let mut recorder = Recorder::blank();
-    recorder.create(PORT, &settings.lend()).expect("valid settings");
-    (recorder, PORT)
-}
-
-fn run(source: Source) -> Result<(), Fault> {
+fn run(source: Source) -> Result<(), Failure> {
     let input = match source {
         Source::Standard => program::input()?,
         Source::File(file) => file,
     };
     let mut lines = Lines::new(input, program::output()?);
     let mut out = Text::default();
-    match setup::two_ends(&mut lines, &mut out) {
-        Err(Failure::Fault(fault)) => return Err(fault),
-        Err(Failure::Settings(bad)) => bad.tell(&mut out),
-        Ok([a, b]) => {
-            let mut ends = Ends::new(recorder(&a), recorder(&b));
-            let mut rounds = 0;
-            while rounds < ENOUGH && !ends.ends().into_iter().all(settled) {
-                ends.round();
-                rounds += 1;
-            }
-            report(&ends, rounds, &mut out);
-        }
+    let mut ends = Ends::create(&setup::two_ends(&mut lines, Behind::Anything, &mut out)?);
+    let mut rounds = 0;
+    while rounds < ENOUGH && !ends.ends().into_iter().all(settled) {
+        ends.round();
+        rounds += 1;
     }
-    lines.write(&mut out)
+    report(&ends, rounds, &mut out);
+    Ok(lines.write(&mut out)?)
 }
 
 fn main() {
-    program::start("pair", USAGE, run);
+    program::start("pair", USAGE, program::say, run);
 }

@@ -1,24 +1,27 @@
 -- `feature::steps::mark` meets its contract. Assumes nothing.
-use Rattle.feature.specs.StateLaws.{marked-withheld, marked-same, marked-changed}
+use Rattle.feature.specs.StateLaws.{marked-same, marked-changed}
 use borrow.Author.Needs.{needs}
 use Rattle.feature.proofs.steps.mark.Statement.{statement}
 use Rattle.feature.proofs.steps.mark.Tie as tie
 
-returns : tie.Need-returns
-returns c = search marked-withheld
+present-requires : tie.Need-present-requires
+present-requires c κs = search needs
+
+present-requires-2 : tie.Need-present-requires-2
+present-requires-2 c κs = search needs
 
 differs-requires : tie.Need-differs-requires
 differs-requires c κs = search needs
 
-returns-2 : tie.Need-returns-2
-returns-2 c = search marked-same
+returns : tie.Need-returns
+returns c = search marked-same
 
 wrapping-add-u32-requires : tie.Need-wrapping-add-u32-requires
 wrapping-add-u32-requires c κs = search needs
 
-returns-3 : tie.Need-returns-3
-returns-3 c = search marked-changed
+returns-2 : tie.Need-returns-2
+returns-2 c = search marked-changed
 
 pub mark-spec : {M : Type 1} → statement M
 mark-spec =
-    tie.close (tie.spec returns differs-requires returns-2 wrapping-add-u32-requires returns-3)
+    tie.close (tie.spec present-requires present-requires-2 differs-requires returns wrapping-add-u32-requires returns-2)

@@ -14,7 +14,7 @@ flags-of-requires : tie.Need-flags-of-requires
 flags-of-requires c κs = search needs
 
 put-parts-requires : tie.Need-put-parts-requires
-put-parts-requires c κs = search (sub-tlv-room, c .before .before .before .before .before .before .before .before .before .pre)
+put-parts-requires c κs = search (sub-tlv-room, c .before .before .before .before .before .before .before .before .pre)
 
 same-length : tie.Need-same-length
 same-length c = search needs

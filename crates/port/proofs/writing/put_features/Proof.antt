@@ -17,13 +17,13 @@ add-third : tie.Need-add-third
 add-third c = search needs
 
 put-sub-tlv-requires : tie.Need-put-sub-tlv-requires
-put-sub-tlv-requires c κs = search (needs, c .before .before .before .before .before .before .pre)
+put-sub-tlv-requires c κs = search (needs, c .before .before .before .before .before .pre)
 
 put-sub-tlv-requires-2 : tie.Need-put-sub-tlv-requires-2
-put-sub-tlv-requires-2 c κs = search (needs, c .before .before .before .before .before .before .before .before .before .before .pre)
+put-sub-tlv-requires-2 c κs = search (needs, c .before .before .before .before .before .before .before .before .before .pre)
 
 put-sub-tlv-requires-3 : tie.Need-put-sub-tlv-requires-3
-put-sub-tlv-requires-3 c κs = search (needs, c .before .before .before .before .before .before .before .before .before .before .before .before .before .before .pre)
+put-sub-tlv-requires-3 c κs = search (needs, c .before .before .before .before .before .before .before .before .before .before .before .before .before .pre)
 
 same-length : tie.Need-same-length
 same-length c = search needs

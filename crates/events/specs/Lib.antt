@@ -1,0 +1,2 @@
+pub mod PortEvents
+pub mod EventLaws
