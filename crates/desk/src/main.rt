@@ -165,6 +165,12 @@ Runs a recorder of one to four ports: first their settings, then events, one a
 line, each answered. With FILE the settings are read from it and the events from
 standard input; without it both are read from standard input.
 
+In the answer to show, syncd 1 of an advertised feature means that the other end
+has handled a frame with its present sub-TLV since that last changed, provided
+that both ends were fresh together, run with one neighbour, were not restarted
+or told since that the peer is gone, and take no frames but each other's, none
+after its sender has written a later one.
+
 Example:
 control max 0
 groups max 0 advertise 1 enable 1 willing 0 priorities 0 0 0 1 0 0 0 0 percentages 50 50 0 0 0 0 0 0 classes 2

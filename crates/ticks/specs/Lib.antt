@@ -1,0 +1,3 @@
+pub mod Ticks
+pub mod Recorders
+pub mod Needed
