@@ -48,6 +48,7 @@ judge:
 
 bench:
 	rt staticlib trial
+	rt check replay
 	rt check desk
 	$(CARGO) build $(REFERENCE) --bins
 	$(CARGO) run $(COMPARE) --bin bench

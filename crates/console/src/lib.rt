@@ -7,8 +7,6 @@ pub mod answers;
 pub mod arguments;
 pub mod settings;
 
-const LINE_FEED: u8 = 10;
-
 // What is kept of a line that fills the whole buffer: enough to see that it cannot be read, or is a comment.
 const KEPT: usize = 4096;
 
@@ -54,52 +52,15 @@ fn held(buffer: &[u8], next: usize, end: usize) -> &[u8]
     octets::from(octets::first(buffer, end), next)
 }
 
-// Whether a line feed stands among the 16 octets from `from` on. The loop has one way through, so that it is compiled to a
-// few steps.
-fn has_feed(s: &[u8], from: usize) -> bool
-    requires { ⌜ from + 16 ≤ length (now s) ⌝ }
-{
-    let mut any = false;
-    let mut i: usize = 0;
-    while i < 16 {
-        any = any | (s[from + i] == LINE_FEED);
-        i += 1;
-    }
-    any
-}
-
-// How many octets in front are passed by, 16 at a time, without a line feed among them.
-fn passed(s: &[u8]) -> usize
-    ensures { λ r. ⌜ r ≤ length (now (s .entry)) ⌝ }
-{
-    let mut i: usize = 0;
-    while 16 <= s.len() - i {
-        if has_feed(s, i) {
-            return i;
-        }
-        i += 16;
-    }
-    i
-}
-
-// How many octets stand before the first line feed.
-fn line_length(s: &[u8]) -> usize
-    ensures { λ r. ⌜ r ≤ length (now (s .entry)) ⌝ }
-{
-    let mut i = passed(s);
-    while i < s.len() {
-        if s[i] == LINE_FEED {
-            return i;
-        }
-        i += 1;
-    }
-    i
-}
-
 fn nothing_found(l: Lines) -> Lines {
     let mut next = l;
     next.found = false;
     next
+}
+
+// The octets that were read and are not done with.
+pub fn rest(buffer: &[u8], l: Lines) -> &[u8] {
+    held(buffer, l.next, l.end)
 }
 
 // Looks for the next line among the octets that are held. The last line may lack its line feed, but behind a read that failed
@@ -107,7 +68,7 @@ fn nothing_found(l: Lines) -> Lines {
 pub fn seek(buffer: &[u8], l: Lines) -> Lines {
     let next = l.next;
     let rest = held(buffer, next, l.end);
-    let n = line_length(rest);
+    let n = capture::line_length(rest);
     if n < rest.len() {
         return Lines {
             number: std::num::wrapping_add_u64(l.number, 1),
@@ -158,6 +119,13 @@ pub fn put_back(l: Lines) -> Lines {
     }
 }
 
+// All octets that were read are done with.
+pub fn pass_rest(l: Lines) -> Lines {
+    let mut next = l;
+    next.next = l.end;
+    next
+}
+
 // Moves the `n` octets from `next` on to the front.
 fn shift(buffer: &mut [u8], next: usize, n: usize) {
     let mut i: usize = 0;
@@ -201,7 +169,7 @@ fn kept(n: usize, room: usize) -> usize
 }
 
 // Reads once more. A read that gives nothing is the end of the input, one that a signal interrupts is tried again.
-fn more(buffer: &mut [u8], l: Lines) -> Lines {
+pub fn more(buffer: &mut [u8], l: Lines) -> Lines {
     let n = held(buffer, l.next, l.end).len();
     shift(buffer, l.next, n);
     let old = kept(n, buffer.len());

@@ -8,11 +8,14 @@ use port::Event;
 use port::Port;
 use port::Versions;
 use recorder::Recorder;
+use script::Due;
 use script::Kind;
 use script::Line;
 use script::Part;
 use script::PortWord;
 use script::Unread;
+use script::forms::Field;
+use script::forms::Name;
 use tlv::Revision;
 
 // A setting, with the number of its line.
@@ -61,6 +64,15 @@ struct Read {
 pub struct Invalid {
     pub line: u64,
     pub why: Fault,
+}
+
+// The settings of two ends. Where `good` is false, what is wrong with them stands in the output up to `at`, which is 0 where a read
+// has failed.
+pub struct Pair {
+    pub good: bool,
+    pub at: usize,
+    pub a: Settings,
+    pub b: Settings,
 }
 
 // The recorder that the settings make, if they are `good`; behind them the events begin. The output holds the answers to its
@@ -398,6 +410,106 @@ fn look_ahead(buffer: &mut [u8], l: Lines, alone: bool) -> Ahead {
         more: lines.found & (alone | more),
         lines: crate::put_back(lines),
     }
+}
+
+// What is said of settings that end too early, or have a line that cannot be read; nothing where a read has failed.
+fn unread_settings(out: &mut [u8], buffer: &[u8], s: Settings) -> Told {
+    let lines = s.lines;
+    if lines.failed {
+        return Told { good: false, at: 0 };
+    }
+    Told {
+        good: false,
+        at: undue(out, buffer, s, false, false),
+    }
+}
+
+// Of a line where none may stand: what is wrong with it as a whole, or else its first word.
+fn not_due(k: Kind) -> Kind {
+    let due = Kind::Unreadable(Unread::Word(1, Due::Field(Field::Word(Name::Control))));
+    match k {
+        Kind::Unreadable(why) => match why {
+            Unread::Word(_, _) => due,
+            _ => k,
+        },
+        _ => due,
+    }
+}
+
+// Where settings stand alone, only comments and empty lines may stand behind them.
+fn behind_settings(buffer: &mut [u8], out: &mut [u8], l: Lines, alone: bool) -> Told {
+    if !alone {
+        return Told { good: true, at: 0 };
+    }
+    let next = crate::next_line(buffer, l);
+    if !next.found {
+        return Told {
+            good: !next.failed,
+            at: 0,
+        };
+    }
+    let kind = kind_of(Part::Control, crate::line(buffer, next), false);
+    Told {
+        good: false,
+        at: unread(out, next.number, false, not_due(kind)),
+    }
+}
+
+// What is said of two ends' settings that were read.
+fn judged(out: &mut [u8], a: Settings, b: Settings) -> Told {
+    let of_a = first_invalid(a);
+    if of_a.line != 0 {
+        return Told {
+            good: false,
+            at: refuse(out, of_a),
+        };
+    }
+    let of_b = first_invalid(b);
+    if of_b.line != 0 {
+        return Told {
+            good: false,
+            at: refuse(out, of_b),
+        };
+    }
+    Told { good: true, at: 0 }
+}
+
+fn told_of_pair(buffer: &mut [u8], out: &mut [u8], a: Settings, b: Settings, alone: bool) -> Told {
+    if !b.good {
+        return unread_settings(out, buffer, b);
+    }
+    let told = behind_settings(buffer, out, b.lines, alone);
+    if !told.good {
+        return told;
+    }
+    judged(out, a, b)
+}
+
+// The settings of B; those of A again, if they cannot be read.
+fn read_second(buffer: &mut [u8], a: Settings) -> Settings {
+    if !a.good {
+        return a;
+    }
+    read_port(buffer, a.lines, false)
+}
+
+// Reads the settings of A, and then of B, and puts what is wrong with them. `alone` says that nothing may stand behind them.
+pub fn read_pair(buffer: &mut [u8], out: &mut [u8], l: Lines, alone: bool) -> Pair {
+    let a = read_port(buffer, l, false);
+    let b = read_second(buffer, a);
+    let told = told_of_pair(buffer, out, a, b, alone);
+    Pair {
+        good: told.good,
+        at: told.at,
+        a: a,
+        b: b,
+    }
+}
+
+// The port of the settings, just created; they are valid.
+pub fn port_with(s: Settings) -> Port {
+    let e = create(events::blank(), s);
+    e.port
 }
 
 // Reads the settings of ports, creates them and puts the answers. A port comes once, so 257 turns are enough.

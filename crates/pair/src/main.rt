@@ -25,12 +25,6 @@ struct Ends {
     rounds: u64,
 }
 
-// A port, just created.
-fn create(s: Settings) -> Port {
-    let e = console::settings::create(events::blank(), s);
-    e.port
-}
-
 // One round between the two ends.
 fn round(a: Port, b: Port) -> Pair {
     let mut from_a = [0; 147];
@@ -223,43 +217,22 @@ fn report_on(out: &mut [u8], e: Ends) -> usize {
 
 // Creates both ends, lets them exchange frames, and reports; the place behind the report.
 fn compared(out: &mut [u8], x: Settings, y: Settings) -> usize {
-    report_on(out, settle(create(x), create(y)))
-}
-
-// The report on settings that were read, or what is wrong with them.
-fn judged(out: &mut [u8], x: Settings, y: Settings) -> usize {
-    let of_a = console::settings::first_invalid(x);
-    if of_a.line != 0 {
-        return console::settings::refuse(out, of_a);
-    }
-    let of_b = console::settings::first_invalid(y);
-    if of_b.line != 0 {
-        return console::settings::refuse(out, of_b);
-    }
-    compared(out, x, y)
-}
-
-// What is said of settings that end too early, or have a line that cannot be read; nothing where a read has failed.
-fn unread(out: &mut [u8], input: &[u8], s: Settings) -> usize {
-    let lines = s.lines;
-    if lines.failed {
-        return 0;
-    }
-    console::settings::undue(out, input, s, false, false)
+    report_on(
+        out,
+        settle(
+            console::settings::port_with(x),
+            console::settings::port_with(y),
+        ),
+    )
 }
 
 // Reads both ends, and gives the place behind what is to be said, 0 where a read has failed.
 fn said(input: &mut [u8], out: &mut [u8], l: Lines) -> usize {
-    let x = console::settings::read_port(input, l, false);
-    let first = x.lines;
-    if !x.good {
-        return unread(out, input, x);
+    let s = console::settings::read_pair(input, out, l, false);
+    if !s.good {
+        return s.at;
     }
-    let y = console::settings::read_port(input, first, false);
-    if !y.good {
-        return unread(out, input, y);
-    }
-    judged(out, x, y)
+    compared(out, s.a, s.b)
 }
 
 // Writes octets to standard output, and where that fails says so on standard error.

@@ -1,5 +1,6 @@
 //! The proved engine (crates/trial) beside the reference engine.
 
+pub mod captures;
 pub mod engine;
 pub mod environment;
 pub mod script;

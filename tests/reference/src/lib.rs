@@ -15,6 +15,7 @@ pub mod port;
 pub mod program;
 pub mod recorder;
 pub mod refusal;
+pub mod replay;
 pub mod revision;
 pub mod rng;
 pub mod rounds;

@@ -279,6 +279,18 @@ fn desk_input() -> Vec<u8> {
     text
 }
 
+/// A million frames of both ends in turn.
+fn replay_input() -> Vec<u8> {
+    let [plain, clashing] = hex_frames();
+    let mut text = SETTINGS.repeat(2).into_bytes();
+    for i in 0..LINES {
+        let sender = ["A", "B"][i % 2];
+        let frames = if i % 20 < 18 { &plain } else { &clashing };
+        writeln!(text, "{sender} {}", frames[i / 20 % FRAMES]).unwrap();
+    }
+    text
+}
+
 /// Runs a program over an input, and gives what it wrote.
 fn run(program: &Path, input: &Path) -> Vec<u8> {
     let output = Command::new(program)
@@ -319,6 +331,10 @@ fn main() {
     heading("engine", "reference");
     engines();
     program("desk", "a line", desk_input);
+    if let Some(nanoseconds) = program("replay", "a frame", replay_input) {
+        let [engine, reference] = nanoseconds.map(|nanoseconds| 1e9 / nanoseconds);
+        println!("replay, frames a second: {engine:.0} and {reference:.0}");
+    }
     println!();
     heading("four ports", "alone");
     ports();

@@ -1,0 +1,4 @@
+pub mod Capture
+pub mod Steps
+pub mod LineLaws
+pub mod HoldLaws

@@ -1,0 +1,183 @@
+-- What the functions do, on the values that they hold: a line at two ports and their counts, octets as they come, and the text of the counts.
+-- What this comes to over a whole capture is Replay and Report: see Replayed.
+use Prim.Native.Nat.{ℕ, _+_, _-_}
+use mathlib.Core.Path.{_≡_}
+use mathlib.Core.Bool.{Bool, true, false, _&&_}
+use mathlib.Core.List.{List, [], _∷_, _++_}
+use lib.ListN.{length, drop, set, replicate}
+use Rattle.octets.specs.Words.{if_then_else_, _below_, _is_}
+use Rattle.octets.specs.Octets.{at}
+use Rattle.octets.specs.Texts.{text}
+use Rattle.feature.specs.declared.State.{State}
+use Rattle.feature.specs.Reasons.{reasonNumber}
+use Rattle.port.specs.declared.Port.{Port}
+use Rattle.port.specs.declared.Event.{Event}
+use Rattle.port.specs.Replies.{eventReply}
+use Rattle.port.specs.Settled.{settled}
+use Rattle.handling.specs.Handling.{handled}
+use Rattle.capture.specs.declared.Form.{Form}
+use Rattle.capture.specs.declared.Form.the-variants.{FromA, FromB, Other}
+use Rattle.capture.specs.Capture.{formOf, frameOf}
+use Rattle.capture.specs.Steps.{clipped, heldOf, pending}
+use Rattle.tally.specs.declared.Changes.{Changes}
+use Rattle.tally.specs.declared.Tally.{Tally}
+use Rattle.tally.specs.declared.Replay.{Replay}
+use Rattle.tally.specs.Report.{capped, row}
+
+-- ---- counters
+
+abbrev pub more : ℕ → ℕ
+more n = capped (n + 1)
+
+-- one more at place i of a row of eight, if it has that place
+unfoldable pub counted : List ℕ → ℕ → List ℕ
+counted r i = if i below 8 then set r i (more (at r i)) else r
+
+-- a refusal's number, 1 to 8, or 0
+unfoldable pub refusalCounted : List ℕ → ℕ → List ℕ
+refusalCounted r n = if n below 1 then r else counted r (n - 1)
+
+-- a reason, by its number, before and after
+unfoldable pub reasonCounted : List ℕ → ℕ → ℕ → List ℕ
+reasonCounted r before after = if before is after then r else if after below 2 then r else counted r (after - 2)
+
+abbrev pub reasonOf : State → ℕ
+reasonOf x = reasonNumber (x .outcome .reason)
+
+unfoldable pub changed : Changes → Port → Port → Changes
+changed c p q =
+    record {
+      groups = reasonCounted (c .groups) (reasonOf (p .groups)) (reasonOf (q .groups));
+      flow = reasonCounted (c .flow) (reasonOf (p .flow)) (reasonOf (q .flow));
+      applications = reasonCounted (c .applications) (reasonOf (p .applications)) (reasonOf (q .applications));
+    }
+
+unfoldable pub further : Bool → ℕ → ℕ
+further rest n = if rest then n else more n
+
+unfoldable pub rests : Bool → Port → Port → Bool
+rests rest a b = if rest then true else settled a && settled b
+
+-- ---- a line
+
+unfoldable pub atA : Event → Tally → Tally
+atA e t =
+    record {
+      a = e .port;
+      b = t .b;
+      «from_a» = t .«from_a»;
+      «from_b» = more (t .«from_b»);
+      others = t .others;
+      refusals = refusalCounted (t .refusals) (eventReply (e .answer) .number);
+      «of_a» = changed (t .«of_a») (t .a) (e .port);
+      «of_b» = t .«of_b»;
+      settled = rests (t .settled) (e .port) (t .b);
+      frames = further (t .settled) (t .frames);
+    }
+
+unfoldable pub atB : Event → Tally → Tally
+atB e t =
+    record {
+      a = t .a;
+      b = e .port;
+      «from_a» = more (t .«from_a»);
+      «from_b» = t .«from_b»;
+      others = t .others;
+      refusals = refusalCounted (t .refusals) (eventReply (e .answer) .number);
+      «of_a» = t .«of_a»;
+      «of_b» = changed (t .«of_b») (t .b) (e .port);
+      settled = rests (t .settled) (t .a) (e .port);
+      frames = further (t .settled) (t .frames);
+    }
+
+unfoldable pub passedBy : Tally → Tally
+passedBy t =
+    record {
+      a = t .a;
+      b = t .b;
+      «from_a» = t .«from_a»;
+      «from_b» = t .«from_b»;
+      others = more (t .others);
+      refusals = t .refusals;
+      «of_a» = t .«of_a»;
+      «of_b» = t .«of_b»;
+      settled = t .settled;
+      frames = t .frames;
+    }
+
+unfoldable pub lineAs : Form → List ℕ → Tally → Tally
+lineAs FromA frame t = atB (handled (t .b) frame) t
+lineAs FromB frame t = atA (handled (t .a) frame) t
+lineAs Other frame t = passedBy t
+
+abbrev pub withLine : Tally → List ℕ → Tally
+withLine t l = lineAs (formOf l) (frameOf l) t
+
+-- ---- octets as they come: the counts behind the last line feed, and what stands behind it
+
+pub record Fed : Type 0 where
+  pub tally : Tally
+  pub rest : List ℕ
+
+-- where w was read of a line already
+unfoldable pub fedFrom : Tally → List ℕ → List ℕ → Fed
+fedFrom t w [] = record { tally = t; rest = w }
+fedFrom t w (c ∷ s) = if c is 10 then fedFrom (withLine t w) [] s else fedFrom t (w ++ (c ∷ [])) s
+
+unfoldable pub heldFed : Fed → Replay
+heldFed x = record { tally = x .tally; held = heldOf (clipped (x .rest)) }
+
+abbrev pub fed : Replay → List ℕ → Replay
+fed r s = heldFed (fedFrom (r .tally) (pending (r .held)) s)
+
+-- the input is at its end: what is held is a line too, if it is anything
+unfoldable pub finished : Replay → Tally
+finished r = if r .held .n is 0 then r .tally else withLine (r .tally) (pending (r .held))
+
+-- ---- the start
+
+abbrev pub unchanged : Changes
+unchanged = record { groups = replicate 8 0; flow = replicate 8 0; applications = replicate 8 0 }
+
+unfoldable pub begun : Port → Port → Tally
+begun a b =
+    record {
+      a = a;
+      b = b;
+      «from_a» = 0;
+      «from_b» = 0;
+      others = 0;
+      refusals = replicate 8 0;
+      «of_a» = unchanged;
+      «of_b» = unchanged;
+      settled = settled a && settled b;
+      frames = 0;
+    }
+
+unfoldable pub started : Port → Port → Replay
+started a b = record { tally = begun a b; held = heldOf [] }
+
+-- ---- the text
+
+unfoldable pub changesText : Changes → List ℕ
+changesText c = row (c .groups) ++ (row (c .flow) ++ row (c .applications))
+
+unfoldable pub settledText : Bool → ℕ → List ℕ
+settledText true n = text "settled " ++ row (n ∷ [])
+settledText false n = text "not settled" ++ (10 ∷ [])
+
+unfoldable pub tallyText : Tally → List ℕ
+tallyText t =
+    row (t .«from_a» ∷ t .«from_b» ∷ t .others ∷ [])
+    ++ (row (t .refusals) ++ (changesText (t .«of_a») ++ (changesText (t .«of_b») ++ settledText (t .settled) (t .frames))))
+
+-- An output of fewer than 1280 octets, which may be too few, is left as it is and answered with 0. In any other the text stands in front.
+unfoldable pub reportLength : Tally → List ℕ → ℕ
+reportLength t out = if length out below 1280 then 0 else length (tallyText t)
+
+unfoldable pub reportOutput : Tally → List ℕ → List ℕ
+reportOutput t out = if length out below 1280 then out else tallyText t ++ drop (length (tallyText t)) out
+
+pub record Reports (t : Tally) (out : List ℕ) (r : ℕ) (now : List ℕ) : Type 0 where
+  pub answers : r ≡ reportLength t out
+  pub octets : now ≡ reportOutput t out
