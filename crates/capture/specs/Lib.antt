@@ -2,3 +2,5 @@ pub mod Capture
 pub mod Steps
 pub mod LineLaws
 pub mod HoldLaws
+pub mod Feeding
+pub mod FeedingLaws

@@ -28,14 +28,14 @@ pub record Before (s : List ℕ) (n : ℕ) : Type 0 where
   pub place : n ≡ before s
   pub within : n ≤ length s
 
--- ---- what is held of a line that has not ended: at most 1029 octets, one more than the longest frame's line has
+-- ---- what is held of a line that has not ended: at most 1101 octets, one more than the longest line that anyone reads
 
 abbrev pub clipped : List ℕ → List ℕ
-clipped w = take 1029 w
+clipped w = take 1101 w
 
 -- as it is held: zero past the last
 unfoldable pub heldOf : List ℕ → Held
-heldOf w = record { n = length w; octets = w ++ replicate (1029 - length w) 0 }
+heldOf w = record { n = length w; octets = w ++ replicate (1101 - length w) 0 }
 
 abbrev pub pending : Held → List ℕ
 pending h = take (h .n) (h .octets)

@@ -3,6 +3,7 @@ ghost use mathlib.Core.Path.{_≡_};
 ghost use mathlib.Core.List.{[], _++_};
 ghost use Prim.Native.Nat.{_+_, _≤_, min};
 ghost use lib.ListN.{length, drop};
+ghost use Rattle.octets.specs.Words.{if_then_else_};
 ghost use Rattle.octets.specs.Octets.{at};
 ghost use Rattle.capture.specs.Capture.{formOf};
 ghost use Rattle.capture.specs.Steps.{feedIn, Along, Before, clipped, heldOf, pending};
@@ -14,8 +15,8 @@ const SPACE: u8 = 32;
 // The longest frame on a line, in octets.
 const FRAME: usize = 513;
 
-// What is held of a line: one octet more than the longest frame's line has.
-const HELD: usize = 1029;
+// What is held of a line: one octet more than the longest line that anyone reads, which is `script`'s, of 1100.
+const HELD: usize = 1101;
 
 // What a line is: a frame that A sent, a frame that B sent, or a line of any other form.
 pub enum Form {
@@ -24,11 +25,11 @@ pub enum Form {
     Other,
 }
 
-// The front of a line that has not ended: its first `n` octets, zero past them. Of a line that is too long for a frame the rest
+// The front of a line that has not ended: its first `n` octets, zero past them. Of a line that is too long to be read the rest
 // is not held.
 pub struct Held {
     pub n: usize,
-    pub octets: [u8; 1029],
+    pub octets: [u8; 1101],
 }
 
 // The form of a line, which has no line feed.
@@ -100,13 +101,13 @@ pub fn nothing() -> Held
 {
     Held {
         n: 0,
-        octets: [0; 1029],
+        octets: [0; 1101],
     }
 }
 
 // How many of so many octets are held.
 fn kept(held: usize, more: usize) -> usize
-    ensures { λ r. ⌜ r ≡ min 1029 (held + more) ⌝ }
+    ensures { λ r. ⌜ r ≡ min 1101 (held + more) ⌝ }
 {
     if HELD <= held {
         return HELD;
@@ -133,11 +134,18 @@ pub fn hold(h: Held, s: &[u8]) -> Held
 {
     let front = octets::first(&h.octets, h.n);
     let n = kept(front.len(), s.len());
-    let mut out = [0; 1029];
+    let mut out = [0; 1101];
     let mut i: usize = 0;
     while i < n {
         out[i] = octet_of_both(front, s, i);
         i += 1;
     }
     Held { n: n, octets: out }
+}
+
+// One of two runs of octets.
+pub fn chosen<'a>(first: bool, x: &'a [u8], y: &'a [u8]) -> &'a [u8]
+    ensures { λ r. ⌜ now r ≡ (if first then now (x .entry) else now (y .entry)) ⌝ }
+{
+    if first { x } else { y }
 }

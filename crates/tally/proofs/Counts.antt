@@ -19,10 +19,12 @@ use Rattle.handling.specs.Handling.{handled}
 use Rattle.capture.specs.declared.Form.{Form}
 use Rattle.capture.specs.declared.Form.the-variants.{FromA, FromB, Other}
 use Rattle.capture.specs.Capture.{formOf, frameOf}
+use Rattle.capture.specs.Feeding.{inTurn}
 use Rattle.tally.specs.declared.Changes.{Changes}
 use Rattle.tally.specs.declared.Tally.{Tally}
 use Rattle.tally.specs.Replay.{End, A, B, Ends, portOf, Step, stepAs, step, run, count, isFrom, isFrame, sentBy, framed, ofOtherForm, refusedWith, reasonAt, hasReason, became, bothSettled, firstSettled}
-use Rattle.tally.specs.Report.{capped, row, reasons, settledLine, reportOf, reportOn}
+use Rattle.numerals.specs.Numerals.{capped}
+use Rattle.tally.specs.Report.{row, reasons, settledLine, reportOf, reportOn}
 use Rattle.tally.specs.Steps.{changed, further, rests, atA, atB, passedBy, lineAs, withLine, begun, changesText, settledText, tallyText}
 use Rattle.tally.proofs.Rows.{tick, refusals, refusal-row, and-not, reason-row}
 
@@ -181,10 +183,6 @@ line-as Other o e c k =
 
 -- ---- all lines
 
-unfoldable pub withLines : Tally → List (List ℕ) → Tally
-withLines t [] = t
-withLines t (l ∷ ls) = withLines (withLine t l) ls
-
 after : Ends → List (List ℕ) → Ends
 after e [] = e
 after e (l ∷ ls) = after (step e l .after) ls
@@ -193,11 +191,11 @@ addsAll : Plain → List Step → Plain
 addsAll c [] = c
 addsAll c (s ∷ ss) = addsAll (adds c s) ss
 
-all-lines : (ls : List (List ℕ)) (e : Ends) (c : Plain) → Known e c → withLines (tallyOf e c) ls ≡ tallyOf (after e ls) (addsAll c (run e ls))
-unfolding withLines after addsAll run
+all-lines : (ls : List (List ℕ)) (e : Ends) (c : Plain) → Known e c → inTurn withLine (tallyOf e c) ls ≡ tallyOf (after e ls) (addsAll c (run e ls))
+unfolding inTurn after addsAll run
 all-lines [] e c k = refl
 all-lines (l ∷ ls) e c k =
-    ap (λ (t : Tally). withLines t ls) (line-as (formOf l) (frameOf l) e c k)
+    ap (λ (t : Tally). inTurn withLine t ls) (line-as (formOf l) (frameOf l) e c k)
     ∙ all-lines ls (step e l .after) (adds c (step e l)) (known-on c (step e l))
 
 -- ---- the counts
@@ -274,7 +272,7 @@ or-twice : (b : Bool) → (b || b) ≡ b
 or-twice true = refl
 or-twice false = refl
 
-counts-all : (e : Ends) (ls : List (List ℕ)) → withLines (begun (e .a) (e .b)) ls ≡ tallyOf (after e ls) (addsAll (nothing e) (run e ls))
+counts-all : (e : Ends) (ls : List (List ℕ)) → inTurn withLine (begun (e .a) (e .b)) ls ≡ tallyOf (after e ls) (addsAll (nothing e) (run e ls))
 unfolding begun tallyOf nothing changesOf Known
 counts-all e ls = all-lines ls e (nothing e) (or-twice (bothSettled e))
 
@@ -341,6 +339,6 @@ module _ (e : Ends) (ss : List Step) where
       ++ (reasons-is A Applications i
       ++ (reasons-is B Groups i ++ (reasons-is B Flow i ++ (reasons-is B Applications i ++ (last-text (all .settled) (all .frames) ∙ ap settledLine settled-is) i))))))))
 
-pub counted-text : (e : Ends) (ls : List (List ℕ)) → tallyText (withLines (begun (e .a) (e .b)) ls) ≡ reportOn e ls
+pub counted-text : (e : Ends) (ls : List (List ℕ)) → tallyText (inTurn withLine (begun (e .a) (e .b)) ls) ≡ reportOn e ls
 unfolding all
 counted-text e ls = ap tallyText (counts-all e ls) ∙ text-all e (run e ls) (after e ls)

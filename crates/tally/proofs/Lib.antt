@@ -1,5 +1,4 @@
 -- A capture's counts are those of its run: `replayed` in Replayed. Assumes nothing.
 pub mod Rows
 pub mod Counts
-pub mod Cuts
 pub mod Replayed

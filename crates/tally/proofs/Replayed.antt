@@ -1,26 +1,30 @@
 -- The claim of E8, whole: of any two ports, and of any input wherever it is cut into reads. Assumes nothing.
 use Prim.Native.Nat.{ℕ}
-use mathlib.Core.Path.{_≡_, sym, ap, _∙_}
+use mathlib.Core.Path.{_≡_, refl, sym, ap, _∙_}
 use mathlib.Core.List.{List, [], _++_}
 use lib.ListN.{length, drop}
 use borrow.Author.Tests.{le-ltb}
 use Rattle.capture.specs.Capture.{lines}
+use Rattle.capture.specs.Feeding.{inTurn, joined, heldFed}
+use Rattle.capture.specs.FeedingLaws.{fed-all, finished-all}
+use Rattle.tally.specs.StepLaws.{with-clipped}
 use Rattle.tally.specs.Replay.{Ends}
 use Rattle.tally.specs.Report.{reportOn}
-use Rattle.tally.specs.Steps.{heldFed, finished, begun, started, tallyText, reportLength, reportOutput}
-use Rattle.tally.specs.Replayed.{joined, replayed, portWith, Replays}
-use Rattle.tally.proofs.Counts.{withLines, counted-text}
-use Rattle.tally.proofs.Cuts.{fed-all, finished-all}
+use Rattle.tally.specs.Steps.{withLine, replayOf, fed, finished, begun, started, tallyText, reportLength, reportOutput}
+use Rattle.tally.specs.Replayed.{replayed, portWith, Replays}
+use Rattle.tally.proofs.Counts.{counted-text}
 
-lines-are : (e : Ends) (reads : List (List ℕ)) → replayed e reads ≡ withLines (begun (e .a) (e .b)) (lines (joined reads))
+lines-are : (e : Ends) (reads : List (List ℕ)) → replayed e reads ≡ inTurn withLine (begun (e .a) (e .b)) (lines (joined reads))
 unfolding started heldFed
-lines-are e reads = ap finished (fed-all reads (begun (e .a) (e .b)) []) ∙ finished-all (joined reads) (begun (e .a) (e .b)) []
+lines-are e reads =
+    ap finished (fed-all withLine with-clipped replayOf fed (λ t h s. refl) reads (begun (e .a) (e .b)) [])
+    ∙ finished-all withLine with-clipped replayOf finished (λ t h. refl) (joined reads) (begun (e .a) (e .b)) []
 
 text-is : (e : Ends) (reads : List (List ℕ)) → tallyText (replayed e reads) ≡ reportOn e (lines (joined reads))
 text-is e reads = ap tallyText (lines-are e reads) ∙ counted-text e (lines (joined reads))
 
 cut-is : (e : Ends) (reads others : List (List ℕ)) → joined reads ≡ joined others → replayed e reads ≡ replayed e others
-cut-is e reads others q = lines-are e reads ∙ ap (λ (s : List ℕ). withLines (begun (e .a) (e .b)) (lines s)) q ∙ sym (lines-are e others)
+cut-is e reads others q = lines-are e reads ∙ ap (λ (s : List ℕ). inTurn withLine (begun (e .a) (e .b)) (lines s)) q ∙ sym (lines-are e others)
 
 pub replays : Replays
 unfolding reportLength reportOutput

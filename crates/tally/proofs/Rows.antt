@@ -16,8 +16,9 @@ use Rattle.feature.specs.Reasons.{reasonNumber}
 use Rattle.port.specs.declared.Answer.{Answer}
 use Rattle.port.specs.declared.Answer.the-variants.{Done, Refused}
 use Rattle.port.specs.Replies.{eventReply, bit}
-use Rattle.tally.specs.Report.{capped, reasons}
-use Rattle.tally.specs.Steps.{more, counted, refusalCounted, reasonCounted}
+use Rattle.numerals.specs.Numerals.{capped, more}
+use Rattle.tally.specs.Report.{reasons}
+use Rattle.tally.specs.Steps.{counted, refusalCounted, reasonCounted}
 
 -- a counter that is at its highest stays there
 pub tick : (b : Bool) (n : ℕ) → (if b then more (capped n) else capped n) ≡ capped (n + bit b)

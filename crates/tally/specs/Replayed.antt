@@ -3,7 +3,7 @@
 -- is counted and written. No count is bounded: past 2^64 - 1 of something the number written stays there, as `capped` says.
 use Prim.Native.Nat.{ℕ, _≤_}
 use mathlib.Core.Path.{_≡_}
-use mathlib.Core.List.{List, [], _∷_, _++_}
+use mathlib.Core.List.{List, _++_}
 use lib.ListN.{length, drop}
 use Rattle.parameters.specs.declared.Feature.{Feature}
 use Rattle.feature.specs.declared.Switches.{Switches}
@@ -11,25 +11,15 @@ use Rattle.port.specs.declared.Port.{Port}
 use Rattle.port.specs.declared.Versions.{Versions}
 use Rattle.events.specs.PortEvents.{created, blankPort}
 use Rattle.capture.specs.Capture.{lines}
+use Rattle.capture.specs.Feeding.{inTurn, joined}
 use Rattle.tally.specs.declared.Tally.{Tally}
-use Rattle.tally.specs.declared.Replay.{Replay}
 use Rattle.tally.specs.Replay.{Ends}
 use Rattle.tally.specs.Report.{reportOn}
 use Rattle.tally.specs.Steps.{started, fed, finished, tallyText, reportLength, reportOutput}
 
--- the octets of all reads, one behind the other
-unfoldable pub joined : List (List ℕ) → List ℕ
-joined [] = []
-joined (s ∷ ss) = s ++ joined ss
-
--- one `feed` after the other
-unfoldable pub fedAll : Replay → List (List ℕ) → Replay
-fedAll r [] = r
-fedAll r (s ∷ ss) = fedAll (fed r s) ss
-
 -- `start`, a `feed` for each read, `finish`
 abbrev pub replayed : Ends → List (List ℕ) → Tally
-replayed e reads = finished (fedAll (started (e .a) (e .b)) reads)
+replayed e reads = finished (inTurn fed (started (e .a) (e .b)) reads)
 
 -- the settings of an end, and the port that creation makes of them
 pub record Settings : Type 0 where

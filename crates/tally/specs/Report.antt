@@ -1,28 +1,16 @@
 -- 02, E8: "writes a report of decimal numbers parted by one space". Its octets.
-use Prim.Native.Nat.{ℕ, zero, suc, _+_, _/_, _%_, min}
+use Prim.Native.Nat.{ℕ}
 use mathlib.Core.List.{List, [], _∷_, _++_, map}
 use mathlib.Core.Option.{Option, none, some}
-use Rattle.octets.specs.Words.{if_then_else_, _below_}
 use Rattle.octets.specs.Texts.{text}
+use Rattle.numerals.specs.Numerals.{capped, decimal}
 use Rattle.parameters.specs.declared.Feature.{Feature}
 use Rattle.parameters.specs.declared.Feature.the-variants.{Groups, Flow, Applications}
 use Rattle.feature.specs.declared.Reason.{Reason}
 use Rattle.feature.specs.declared.Reason.the-variants.{Absent, Duplicate, Bad, Waiting, Disabled, Agreed, NotCompatible, ControlTwice}
 use Rattle.tally.specs.Replay.{End, A, B, Ends, Step, run, count, sentBy, ofOtherForm, refusedWith, became, firstSettled}
 
--- ---- Decimal numbers
-
--- the digits of n, without a zero in front, where so many are enough
-unfoldable pub digitsOf : ℕ → ℕ → List ℕ
-digitsOf zero n = []
-digitsOf (suc k) n = if n below 10 then (48 + n) ∷ [] else digitsOf k (n / 10) ++ ((48 + n % 10) ∷ [])
-
--- a number is written as the lower of it and 18,446,744,073,709,551,615, which has 20 digits
-abbrev pub capped : ℕ → ℕ
-capped n = min n 18446744073709551615
-
-abbrev pub decimal : ℕ → List ℕ
-decimal n = digitsOf 20 n
+-- ---- Lines of numbers
 
 -- "decimal numbers parted by one space", and a line feed
 unfoldable pub row : List ℕ → List ℕ

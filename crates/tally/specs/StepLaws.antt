@@ -1,13 +1,12 @@
 -- Counters, a line, and lines as they end in a read: what the inner functions promise, and a law for each way out of them, with premises
 -- in the form in which tests and calls leave them. Assumes nothing.
-use Prim.Native.Nat.{ℕ, suc, _+_, _-_, _≤_, _<_}
-use native.Mathlib.Omega.{arith}
-use mathlib.Core.Path.{_≡_, refl, sym, ap, _∙_}
+use Prim.Native.Nat.{ℕ, _+_, _-_, _≤_, _<_}
+use mathlib.Core.Path.{_≡_, refl, ap, _∙_}
 use mathlib.Core.Bool.{Bool, true, false, _&&_}
-use mathlib.Core.List.{List, [], _∷_, _++_, append-assoc, append-nil}
-use lib.ListN.{length, take, drop, set, replicate, drop-of-length-le, length-drop}
-use lib.Seq.{drop-drop, take-all, take-append-seam}
-use borrow.Author.Tests.{lt-ltb, le-ltb, eq-eqb, ne-eqb, eqb-true}
+use mathlib.Core.List.{List, [], _∷_, _++_}
+use lib.ListN.{length, take, drop, set, replicate}
+use lib.Seq.{take-append-seam}
+use borrow.Author.Tests.{lt-ltb, le-ltb, eq-eqb, ne-eqb}
 use Rattle.octets.specs.Words.{if_then_else_, _below_, _is_}
 use Rattle.octets.specs.Octets.{at}
 use Rattle.tlv.specs.declared.Refusal.{Refusal}
@@ -25,13 +24,16 @@ use Rattle.capture.specs.declared.Held.{Held}
 use Rattle.capture.specs.declared.Form.{Form}
 use Rattle.capture.specs.declared.Form.the-variants.{FromA, FromB, Other}
 use Rattle.capture.specs.Capture.{formOf, frameOf}
-use Rattle.capture.specs.Steps.{before, Before, clipped, heldOf, pending}
-use Rattle.capture.specs.HoldLaws.{Clipping, whole, long, clipping, pending-held}
+use Rattle.capture.specs.Steps.{Before, clipped, heldOf, pending}
+use Rattle.capture.specs.HoldLaws.{Clipping, whole, long, clipping}
+use Rattle.capture.specs.Feeding.{fedFrom, heldFed, ended}
+use Rattle.capture.specs.FeedingLaws as feeding
+use Rattle.numerals.specs.Numerals.{more}
 use Rattle.tally.specs.declared.Changes.{Changes}
 use Rattle.tally.specs.declared.Tally.{Tally}
 use Rattle.tally.specs.declared.Passed.{Passed}
 use Rattle.tally.specs.declared.Replay.{Replay}
-use Rattle.tally.specs.Steps.{more, counted, refusalCounted, reasonCounted, reasonOf, changed, further, rests, atA, atB, passedBy, lineAs, withLine, Fed, fedFrom, heldFed, fed, finished, unchanged, begun, started}
+use Rattle.tally.specs.Steps.{counted, refusalCounted, reasonCounted, reasonOf, changed, further, rests, atA, atB, passedBy, lineAs, withLine, replayOf, fed, finished, unchanged, begun, started}
 
 -- ---- counters
 
@@ -114,150 +116,43 @@ frame-handled p l a b c d = d ∙ ap (handled p) (c ∙ rw (a, b) (take-append-s
 
 -- ---- lines that end in a read
 
--- the first line that ends in s, of whatever front, is w as a whole
-unfoldable pub fedBehind : Tally → List ℕ → List ℕ → Fed
-fedBehind t w s = if before s below length s then fedFrom (withLine t w) [] (drop (before s + 1) s) else record { tally = t; rest = s }
+abbrev pub Passes : Tally → List ℕ → List ℕ → Passed → Type 0
+Passes t front s r = feeding.Passes withLine t front s (r .tally) (r .at)
 
-pub record Passes (t : Tally) (front s : List ℕ) (r : Passed) : Type 0 where
-  pub within : r .at ≤ length s
-  pub same : fedBehind t front s ≡ record { tally = r .tally; rest = drop (r .at) s }
+abbrev pub Passing : Tally → List ℕ → List ℕ → Tally → ℕ → Type 0
+Passing start front s t i = feeding.Passing withLine start front s t i
 
--- one octet more, which is a line feed or not
-fed-step : (t : Tally) (w : List ℕ) (c : ℕ) (s : List ℕ) (b : Bool) → (c is 10) ≡ b
-    → (before s < length s → fedFrom t (w ++ (c ∷ [])) s ≡ fedFrom (withLine t (w ++ (c ∷ []) ++ take (before s) s)) [] (drop (before s + 1) s))
-    → (if b then 0 else suc (before s)) < suc (length s)
-    → (if b then fedFrom (withLine t w) [] s else fedFrom t (w ++ (c ∷ [])) s)
-    ≡ fedFrom (withLine t (w ++ take (if b then 0 else suc (before s)) (c ∷ s))) [] (drop ((if b then 0 else suc (before s)) + 1) (c ∷ s))
-fed-step t w c s true q f h = rw (append-nil w) refl
-fed-step t w c s false q f h =
-    let e : suc (before s) + 1 ≡ suc (before s + 1) = omega arith in
-    f (omega arith) ∙ rw (e, append-assoc w (c ∷ []) (take (before s) s)) refl
+-- no more line feed
+pub passing-none : {start : Tally} {front s : List ℕ} {t : Tally} {i : ℕ} {rest : List ℕ} {n : ℕ} → Passing start front s t i → rest ≡ drop i s → Before rest n → length rest ≤ n
+    → Passes start front s (record { tally = t; at = i })
+passing-none r e p h = feeding.passing-none withLine r e p h
 
--- up to the first line feed
-pub fed-to : (t : Tally) (w s : List ℕ) → before s < length s → fedFrom t w s ≡ fedFrom (withLine t (w ++ take (before s) s)) [] (drop (before s + 1) s)
-unfolding fedFrom before
-fed-to t w [] h = absurd (omega arith)
-fed-to t w (c ∷ s) h = fed-step t w c s (c is 10) refl (fed-to t (w ++ (c ∷ [])) s) h
-
--- without a line feed
-none-step : (t : Tally) (w : List ℕ) (c : ℕ) (s : List ℕ) (b : Bool) → (length s ≤ before s → fedFrom t (w ++ (c ∷ [])) s ≡ record { tally = t; rest = w ++ (c ∷ []) ++ s })
-    → suc (length s) ≤ (if b then 0 else suc (before s))
-    → (if b then fedFrom (withLine t w) [] s else fedFrom t (w ++ (c ∷ [])) s) ≡ record { tally = t; rest = w ++ c ∷ s }
-none-step t w c s true f h = absurd (omega arith)
-none-step t w c s false f h = f (omega arith) ∙ rw (append-assoc w (c ∷ []) s) refl
-
-pub fed-none : (t : Tally) (w s : List ℕ) → length s ≤ before s → fedFrom t w s ≡ record { tally = t; rest = w ++ s }
-unfolding fedFrom before
-fed-none t w [] h = rw (append-nil w) refl
-fed-none t w (c ∷ s) h = none-step t w c s (c is 10) (fed-none t (w ++ (c ∷ [])) s) h
-
--- ---- lines passed: at the place reached, what is left gives the same as the whole
-
-unfoldable pub going : ℕ → Tally → List ℕ → List ℕ → Fed
-going i t front s = if i is 0 then fedBehind t front s else fedFrom t [] (drop i s)
-
-pub record Passing (start : Tally) (front s : List ℕ) (t : Tally) (i : ℕ) : Type 0 where
-  pub within : i ≤ length s
-  pub same : going i t front s ≡ fedBehind start front s
-
-pub passing-start : (t : Tally) (front s : List ℕ) → Passing t front s t 0
-unfolding going
-passing-start t front s = record { within = omega arith; same = refl }
-
--- the line that ends next
-abbrev lineAt : ℕ → List ℕ → List ℕ → ℕ → List ℕ
-lineAt i front rest n = if i is 0 then front else take n rest
-
-going-on : (i n : ℕ) (t : Tally) (front s : List ℕ) → i ≤ length s → Before (drop i s) n → n < length (drop i s)
-    → going i t front s ≡ fedFrom (withLine t (lineAt i front (drop i s) n)) [] (drop (i + n + 1) s)
-unfolding going fedBehind
-going-on i n t front s w p h = here (i is 0) refl
-  where
-    here : (b : Bool) → (i is 0) ≡ b
-        → (if b then (if before s below length s then fedFrom (withLine t front) [] (drop (before s + 1) s) else record { tally = t; rest = s }) else fedFrom t [] (drop i s))
-        ≡ fedFrom (withLine t (if b then front else take n (drop i s))) [] (drop (i + n + 1) s)
-    here true q =
-        let z : i ≡ 0 = eqb-true i 0 q in
-        let e : n ≡ before s = p .place ∙ rw z refl in
-        let l : before s < length s = omega (arith, length-drop i s) in
-        let m : i + n + 1 ≡ before s + 1 = omega arith in
-        rw (lt-ltb (before s) (length s) l, m) refl
-    here false q =
-        let l : before (drop i s) < length (drop i s) = omega (arith, p .place) in
-        let m : i + (n + 1) ≡ i + n + 1 = omega arith in
-        fed-to t [] (drop i s) l ∙ rw (← p .place, drop-drop, m) refl
-
-going-none : (i n : ℕ) (t : Tally) (front s : List ℕ) → Before (drop i s) n → length (drop i s) ≤ n → going i t front s ≡ record { tally = t; rest = drop i s }
-unfolding going fedBehind
-going-none i n t front s p h = here (i is 0) refl
-  where
-    here : (b : Bool) → (i is 0) ≡ b
-        → (if b then (if before s below length s then fedFrom (withLine t front) [] (drop (before s + 1) s) else record { tally = t; rest = s }) else fedFrom t [] (drop i s))
-        ≡ record { tally = t; rest = drop i s }
-    here true q =
-        let z : i ≡ 0 = eqb-true i 0 q in
-        let e : n ≡ before s = p .place ∙ rw z refl in
-        let l : length s ≤ before s = omega (arith, length-drop i s) in
-        rw (le-ltb (before s) (length s) l, z) refl
-    here false q = fed-none t [] (drop i s) (omega (arith, p .place))
-
-module _ {start : Tally} {front s : List ℕ} {t : Tally} {i : ℕ} where
-  -- no more line feed
-  pub passing-none : {rest : List ℕ} {n : ℕ} → Passing start front s t i → rest ≡ drop i s → Before rest n → length rest ≤ n
-      → Passes start front s (record { tally = t; at = i })
-  passing-none {rest} {n} r e p h = record { within = r .within; same = sym (r .same) ∙ going-none i n t front s (rw e at p) (rw e at h) }
-
-  -- the end
-  pub passing-end : Passing start front s t i → length s ≤ i → Passes start front s (record { tally = t; at = i })
-  unfolding before
-  passing-end r h =
-      let d : drop i s ≡ [] = drop-of-length-le s h in
-      let p : Before (drop i s) 0 = record { place = rw d refl; within = omega arith } in
-      record { within = r .within; same = sym (r .same) ∙ going-none i 0 t front s p (rw d (omega arith)) }
-
-  -- a line
-  passing-on : {rest piece line : List ℕ} {n : ℕ} {t′ : Tally} → Passing start front s t i → rest ≡ drop i s → Before rest n → n < length rest
-      → piece ≡ take n rest → line ≡ (if i is 0 then front else piece) → t′ ≡ withLine t line → Passing start front s t′ (i + n + 1)
-  unfolding going
-  passing-on {n = n} {t′ = t′} r e p h ep el et =
-      let p′ : Before (drop i s) n = rw e at p in
-      let h′ : n < length (drop i s) = rw e at h in
-      let m : (i + n + 1) is 0 ≡ false = ne-eqb (i + n + 1) 0 (λ z. omega arith) in
-      let l : t′ ≡ withLine t (lineAt i front (drop i s) n) = et ∙ rw (el, ep, e) refl in
-      record {
-        within = omega (arith, r .within, length-drop i s);
-        same = rw (m, l) (sym (going-on i n t front s (r .within) p′ h′) ∙ r .same);
-      }
-
-  -- a frame that A sent, one that B sent, and a line of another form
-  module _ {rest piece line : List ℕ} {n : ℕ} {form : Form} (r : Passing start front s t i) (e : rest ≡ drop i s) (p : Before rest n) (h : n < length rest)
-      (ep : piece ≡ take n rest) (el : line ≡ (if i is 0 then front else piece)) (ef : form ≡ formOf line) where
-    module _ {x : Event} {m f : ℕ} {w : List ℕ} {c : Changes} {q : Bool} where
-      pub passing-a : form ≡ FromA → x ≡ handled (t .b) (frameOf line) → m ≡ more (t .«from_a») → w ≡ refusalCounted (t .refusals) (eventReply (x .answer) .number)
-          → c ≡ changed (t .«of_b») (t .b) (x .port) → f ≡ further (t .settled) (t .frames) → q ≡ rests (t .settled) (t .a) (x .port)
-          → Passing start front s
-          (record { a = t .a; b = x .port; «from_a» = m; «from_b» = t .«from_b»; others = t .others; refusals = w; «of_a» = t .«of_a»; «of_b» = c; settled = q; frames = f })
-          (i + n + 1)
-      unfolding lineAs atB
-      passing-a eg ex em ew ec ez eq = passing-on r e p h ep el (rw (em, ew, ec, ez, eq, ex, ← ef, eg) refl)
-
-      pub passing-b : form ≡ FromB → x ≡ handled (t .a) (frameOf line) → m ≡ more (t .«from_b») → w ≡ refusalCounted (t .refusals) (eventReply (x .answer) .number)
-          → c ≡ changed (t .«of_a») (t .a) (x .port) → f ≡ further (t .settled) (t .frames) → q ≡ rests (t .settled) (x .port) (t .b)
-          → Passing start front s
-          (record { a = x .port; b = t .b; «from_a» = t .«from_a»; «from_b» = m; others = t .others; refusals = w; «of_a» = c; «of_b» = t .«of_b»; settled = q; frames = f })
-          (i + n + 1)
-      unfolding lineAs atA
-      passing-b eg ex em ew ec ez eq = passing-on r e p h ep el (rw (em, ew, ec, ez, eq, ex, ← ef, eg) refl)
-
-    pub passing-other : {m : ℕ} → form ≡ Other → m ≡ more (t .others)
+-- a frame that A sent, one that B sent, and a line of another form
+module _ {start : Tally} {front s : List ℕ} {t : Tally} {i : ℕ} {rest piece line : List ℕ} {n : ℕ} {form : Form} (r : Passing start front s t i) (e : rest ≡ drop i s)
+    (p : Before rest n) (h : n < length rest) (ep : piece ≡ take n rest) (el : line ≡ (if i is 0 then front else piece)) (ef : form ≡ formOf line) where
+  module _ {x : Event} {m f : ℕ} {w : List ℕ} {c : Changes} {q : Bool} where
+    pub passing-a : form ≡ FromA → x ≡ handled (t .b) (frameOf line) → m ≡ more (t .«from_a») → w ≡ refusalCounted (t .refusals) (eventReply (x .answer) .number)
+        → c ≡ changed (t .«of_b») (t .b) (x .port) → f ≡ further (t .settled) (t .frames) → q ≡ rests (t .settled) (t .a) (x .port)
         → Passing start front s
-        (record { a = t .a; b = t .b; «from_a» = t .«from_a»; «from_b» = t .«from_b»; others = m; refusals = t .refusals; «of_a» = t .«of_a»; «of_b» = t .«of_b»; settled = t .settled; frames = t .frames })
+        (record { a = t .a; b = x .port; «from_a» = m; «from_b» = t .«from_b»; others = t .others; refusals = w; «of_a» = t .«of_a»; «of_b» = c; settled = q; frames = f })
         (i + n + 1)
-    unfolding lineAs passedBy
-    passing-other eg em = passing-on r e p h ep el (rw (em, ← ef, eg) refl)
+    unfolding lineAs atB
+    passing-a eg ex em ew ec ez eq = feeding.passing-on withLine r e p h ep el (rw (em, ew, ec, ez, eq, ex, ← ef, eg) refl)
 
-pub passing-less : (i n l : ℕ) → i < l → l - (i + n + 1) < l - i
-passing-less i n l h = omega arith
+    pub passing-b : form ≡ FromB → x ≡ handled (t .a) (frameOf line) → m ≡ more (t .«from_b») → w ≡ refusalCounted (t .refusals) (eventReply (x .answer) .number)
+        → c ≡ changed (t .«of_a») (t .a) (x .port) → f ≡ further (t .settled) (t .frames) → q ≡ rests (t .settled) (x .port) (t .b)
+        → Passing start front s
+        (record { a = x .port; b = t .b; «from_a» = t .«from_a»; «from_b» = m; others = t .others; refusals = w; «of_a» = c; «of_b» = t .«of_b»; settled = q; frames = f })
+        (i + n + 1)
+    unfolding lineAs atA
+    passing-b eg ex em ew ec ez eq = feeding.passing-on withLine r e p h ep el (rw (em, ew, ec, ez, eq, ex, ← ef, eg) refl)
+
+  pub passing-other : {m : ℕ} → form ≡ Other → m ≡ more (t .others)
+      → Passing start front s
+      (record { a = t .a; b = t .b; «from_a» = t .«from_a»; «from_b» = t .«from_b»; others = m; refusals = t .refusals; «of_a» = t .«of_a»; «of_b» = t .«of_b»; settled = t .settled; frames = t .frames })
+      (i + n + 1)
+  unfolding lineAs passedBy
+  passing-other eg em = feeding.passing-on withLine r e p h ep el (rw (em, ← ef, eg) refl)
 
 -- ---- a read, and the end
 
@@ -267,34 +162,21 @@ with-clipped t w = here (clipping w)
   where
     here : Clipping w → withLine t (clipped w) ≡ withLine t w
     here (whole e) = rw e refl
-    here (long e f) = rw (e, f) refl
+    here (long k l e f) = rw (e, f) refl
 
 module _ (r : Replay) (s : List ℕ) {n : ℕ} {piece : List ℕ} {h : Held} (p : Before s n) (ep : piece ≡ take n s) (eh : h ≡ heldOf (clipped (pending (r .held) ++ piece))) where
   pub feed-none : length s ≤ n → record { tally = r .tally; held = h } ≡ fed r s
-  unfolding heldFed
-  feed-none l =
-      let e : piece ≡ s = ep ∙ take-all n s l in
-      rw (fed-none (r .tally) (pending (r .held)) s (omega (arith, p .place)), eh, e) refl
+  feed-none l = feeding.feed-none withLine with-clipped (r .tally) (pending (r .held)) s p ep eh l replayOf
 
   pub feed-some : {front rest : List ℕ} {x : Passed} {o k : Held} → n < length s → front ≡ take (h .n) (h .octets) → Passes (r .tally) front s x
       → o ≡ heldOf [] → rest ≡ drop (x .at) s → k ≡ heldOf (clipped (pending o ++ rest)) → record { tally = x .tally; held = k } ≡ fed r s
-  unfolding heldFed fedBehind
-  feed-some {front} {rest} {x} {o} {k} l ef px eo er ek =
-      let w : List ℕ = pending (r .held) in
-      let z : before s < length s = omega (arith, p .place) in
-      let e : piece ≡ take (before s) s = ep ∙ rw (p .place) refl in
-      let f : front ≡ clipped (w ++ take (before s) s) = ef ∙ rw (eh, e) (pending-held (clipped (w ++ take (before s) s))) in
-      let g : withLine (r .tally) front ≡ withLine (r .tally) (w ++ take (before s) s) = rw f (with-clipped (r .tally) (w ++ take (before s) s)) in
-      let q : fedFrom (r .tally) w s ≡ record { tally = x .tally; rest = drop (x .at) s } =
-      fed-to (r .tally) w s z ∙ rw (← g) (rw (lt-ltb (before s) (length s) z) at (px .same)) in
-      let j : pending o ≡ [] = rw eo (pending-held []) in
-      rw (q, ek, j, er) refl
+  feed-some l ef px eo er ek = feeding.feed-some withLine with-clipped (r .tally) (pending (r .held)) s p ep eh l ef px eo er ek replayOf
 
 module _ (r : Replay) where
   pub finish-none : r .held .n ≡ 0 → r .tally ≡ finished r
-  unfolding finished
+  unfolding ended
   finish-none e = rw (eq-eqb (r .held .n) 0 e) refl
 
   pub finish-some : {x : Replay} → (r .held .n ≡ 0 → ⊥) → x ≡ fed r (10 ∷ []) → x .tally ≡ finished r
-  unfolding finished heldFed fedFrom
+  unfolding ended heldFed fedFrom
   finish-some n e = rw (e, ne-eqb (r .held .n) 0 n) refl

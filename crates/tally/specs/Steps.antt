@@ -18,16 +18,16 @@ use Rattle.handling.specs.Handling.{handled}
 use Rattle.capture.specs.declared.Form.{Form}
 use Rattle.capture.specs.declared.Form.the-variants.{FromA, FromB, Other}
 use Rattle.capture.specs.Capture.{formOf, frameOf}
-use Rattle.capture.specs.Steps.{clipped, heldOf, pending}
+use Rattle.capture.specs.declared.Held.{Held}
+use Rattle.capture.specs.Steps.{heldOf, pending}
+use Rattle.capture.specs.Feeding.{fedFrom, heldFed, ended}
 use Rattle.tally.specs.declared.Changes.{Changes}
 use Rattle.tally.specs.declared.Tally.{Tally}
 use Rattle.tally.specs.declared.Replay.{Replay}
-use Rattle.tally.specs.Report.{capped, row}
+use Rattle.numerals.specs.Numerals.{more}
+use Rattle.tally.specs.Report.{row}
 
 -- ---- counters
-
-abbrev pub more : ℕ → ℕ
-more n = capped (n + 1)
 
 -- one more at place i of a row of eight, if it has that place
 unfoldable pub counted : List ℕ → ℕ → List ℕ
@@ -113,26 +113,16 @@ lineAs Other frame t = passedBy t
 abbrev pub withLine : Tally → List ℕ → Tally
 withLine t l = lineAs (formOf l) (frameOf l) t
 
--- ---- octets as they come: the counts behind the last line feed, and what stands behind it
+-- ---- octets as they come
 
-pub record Fed : Type 0 where
-  pub tally : Tally
-  pub rest : List ℕ
-
--- where w was read of a line already
-unfoldable pub fedFrom : Tally → List ℕ → List ℕ → Fed
-fedFrom t w [] = record { tally = t; rest = w }
-fedFrom t w (c ∷ s) = if c is 10 then fedFrom (withLine t w) [] s else fedFrom t (w ++ (c ∷ [])) s
-
-unfoldable pub heldFed : Fed → Replay
-heldFed x = record { tally = x .tally; held = heldOf (clipped (x .rest)) }
+abbrev pub replayOf : Tally → Held → Replay
+replayOf t h = record { tally = t; held = h }
 
 abbrev pub fed : Replay → List ℕ → Replay
-fed r s = heldFed (fedFrom (r .tally) (pending (r .held)) s)
+fed r s = heldFed replayOf (fedFrom withLine (r .tally) (pending (r .held)) s)
 
--- the input is at its end: what is held is a line too, if it is anything
-unfoldable pub finished : Replay → Tally
-finished r = if r .held .n is 0 then r .tally else withLine (r .tally) (pending (r .held))
+abbrev pub finished : Replay → Tally
+finished r = ended withLine (r .tally) (r .held)
 
 -- ---- the start
 

@@ -1,12 +1,9 @@
 // A capture replayed between two ports, and counted (02, E8). Octets are fed in reads of any length; the counts are a value.
 ghost use mathlib.Core.Path.{_≡_};
-ghost use Prim.Native.Nat.{_+_};
-ghost use lib.ListN.{length};
-ghost use Rattle.octets.specs.Words.{if_then_else_};
 ghost use Rattle.port.specs.Replies.{eventReply};
 ghost use Rattle.handling.specs.Handling.{handled};
 ghost use Rattle.capture.specs.Capture.{frameOf};
-ghost use Rattle.tally.specs.Steps.{more, counted, refusalCounted, reasonCounted, reasonOf, changed, further, rests, fed, finished, started, unchanged, begun};
+ghost use Rattle.tally.specs.Steps.{counted, refusalCounted, reasonCounted, reasonOf, changed, further, rests, fed, finished, started, unchanged, begun};
 ghost use Rattle.tally.specs.StepLaws.{Passes};
 use capture::Form;
 use capture::Held;
@@ -46,16 +43,6 @@ pub struct Replay {
     pub held: Held,
 }
 
-// One more, but no more than a counter holds.
-fn more(n: u64) -> u64
-    ensures { λ r. ⌜ r ≡ more n ⌝ }
-{
-    if n == u64::MAX {
-        return n;
-    }
-    n + 1
-}
-
 // One more at place `i`.
 fn count_at(row: [u64; 8], i: usize) -> [u64; 8]
     ensures { λ r. ⌜ r ≡ counted row i ⌝ }
@@ -64,7 +51,7 @@ fn count_at(row: [u64; 8], i: usize) -> [u64; 8]
         return row;
     }
     let mut next = row;
-    next[i] = more(row[i]);
+    next[i] = numerals::more(row[i]);
     next
 }
 
@@ -139,7 +126,7 @@ fn count_further(settled: bool, frames: u64) -> u64
     if settled {
         return frames;
     }
-    more(frames)
+    numerals::more(frames)
 }
 
 // Whether both ends are settled, or were before.
@@ -163,13 +150,6 @@ fn handle(p: Port, line: &[u8]) -> Event
     handling::handle(p, octets::first(&frame, n))
 }
 
-// One of two runs of octets.
-fn chosen<'a>(first: bool, x: &'a [u8], y: &'a [u8]) -> &'a [u8]
-    ensures { λ r. ⌜ now r ≡ (if first then now (x .entry) else now (y .entry)) ⌝ }
-{
-    if first { x } else { y }
-}
-
 // The counts behind the last line feed of a read, and its place.
 struct Passed {
     tally: Tally,
@@ -189,14 +169,14 @@ fn pass_lines<'a>(start: Tally, front: &'a [u8], s: &'a [u8]) -> Passed
         if rest.len() <= n {
             return Passed { tally: t, at: at };
         }
-        let line = chosen(at == 0, front, octets::first(rest, n));
+        let line = capture::chosen(at == 0, front, octets::first(rest, n));
         at = at + n + 1;
         let form = capture::form_of(line);
         match form {
             Form::FromA => {
                 let e = handle(t.b, line);
                 let answer = e.answer;
-                t.from_a = more(t.from_a);
+                t.from_a = numerals::more(t.from_a);
                 let row = t.refusals;
                 let at_b = count_refusal(row, answer);
                 t.refusals = at_b;
@@ -210,7 +190,7 @@ fn pass_lines<'a>(start: Tally, front: &'a [u8], s: &'a [u8]) -> Passed
             Form::FromB => {
                 let e = handle(t.a, line);
                 let answer = e.answer;
-                t.from_b = more(t.from_b);
+                t.from_b = numerals::more(t.from_b);
                 let row = t.refusals;
                 let at_a = count_refusal(row, answer);
                 t.refusals = at_a;
@@ -222,7 +202,7 @@ fn pass_lines<'a>(start: Tally, front: &'a [u8], s: &'a [u8]) -> Passed
                 continue;
             }
             Form::Other => {
-                t.others = more(t.others);
+                t.others = numerals::more(t.others);
                 continue;
             }
         }

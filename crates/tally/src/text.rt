@@ -1,11 +1,12 @@
 // The report's octets.
 ghost use mathlib.Core.Path.{_≡_};
-ghost use mathlib.Core.List.{[], _∷_, _++_};
+ghost use mathlib.Core.List.{[], _∷_};
 ghost use Prim.Native.Nat.{_+_, _*_, _≤_};
 ghost use lib.ListN.{length};
-ghost use Rattle.tally.specs.Report.{decimal, row};
+ghost use Rattle.numerals.specs.NumeralLaws.{Laid};
+ghost use Rattle.tally.specs.Report.{row};
 ghost use Rattle.tally.specs.Steps.{changesText, settledText, Reports};
-ghost use Rattle.tally.specs.TextLaws.{Laid, Spelled, behind};
+ghost use Rattle.tally.specs.TextLaws.{behind};
 use crate::Changes;
 use crate::Tally;
 
@@ -15,25 +16,6 @@ const LINE_FEED: u8 = 10;
 
 // No report is longer.
 const ROOM: usize = 1280;
-
-// Puts the digits of a number, and answers how many there are.
-fn spell(n: u64, digits: &mut [u8; 20]) -> usize
-    ensures { λ r. ⌜ Spelled n r (now (digits .exit)) ⌝ }
-{
-    io::decimal(n, digits)
-}
-
-// Puts a number in decimal, and an octet behind it. The caller has seen to the room; hence the `requires`, here and below.
-fn put_number(out: &mut [u8], at: usize, n: u64, end: u8) -> usize
-    requires { ⌜ at + 21 ≤ length (now out) ⌝ }
-    ensures { λ r. ⌜ Laid (now (out .entry)) at (decimal n ++ (end ∷ [])) 21 r (now (out .exit)) ⌝ }
-{
-    let mut digits = [0u8; 20];
-    let k = spell(n, &mut digits);
-    octets::numbers::put(out, at, &digits[..k]);
-    out[at + k] = end;
-    at + k + 1
-}
 
 // What stands behind a number: a space before others, and a line feed at the end.
 fn behind(others: bool) -> u8
@@ -51,7 +33,7 @@ fn put_row(out: &mut [u8], at: usize, numbers: &[u64]) -> usize
     let mut i: usize = 0;
     while i < numbers.len() {
         let end = behind(i + 1 < numbers.len());
-        place = put_number(out, place, numbers[i], end);
+        place = numerals::put_number(out, place, numbers[i], end);
         i += 1;
     }
     place
@@ -94,7 +76,7 @@ fn put_settled(out: &mut [u8], at: usize, settled: bool, frames: u64) -> usize
 {
     if settled {
         octets::numbers::put(out, at, b"settled ");
-        return put_number(out, at + 8, frames, LINE_FEED);
+        return numerals::put_number(out, at + 8, frames, LINE_FEED);
     }
     octets::numbers::put(out, at, b"not settled\n");
     at + 12

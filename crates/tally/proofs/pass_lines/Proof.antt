@@ -1,5 +1,6 @@
 -- `pass_lines` meets its contract: what is left gives the same as the whole. Assumes nothing.
-use Rattle.tally.specs.StepLaws.{Passing, passing-start, passing-none, passing-end, passing-a, passing-b, passing-other, passing-less}
+use Rattle.capture.specs.FeedingLaws.{passing-start, passing-end, passing-less}
+use Rattle.tally.specs.StepLaws.{Passing, passing-none, passing-a, passing-b, passing-other}
 use Prim.Native.Nat.{_-_}
 use mathlib.Core.Path.{ap}
 use lib.ListN.{length}

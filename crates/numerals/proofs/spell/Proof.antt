@@ -1,8 +1,8 @@
 -- `spell` meets its contract. Assumes nothing.
-use Rattle.tally.specs.TextLaws.{spelled}
+use Rattle.numerals.specs.NumeralLaws.{spelled}
 use borrow.Author.Needs.{needs}
-use Rattle.tally.proofs.text.spell.Statement.{statement}
-use Rattle.tally.proofs.text.spell.Tie as tie
+use Rattle.numerals.proofs.spell.Statement.{statement}
+use Rattle.numerals.proofs.spell.Tie as tie
 
 decimal-requires : tie.Need-decimal-requires
 decimal-requires c κs = search needs

@@ -1,9 +1,9 @@
 -- `put_number` meets its contract. Assumes nothing.
-use Rattle.tally.specs.TextLaws.{number-laid}
+use Rattle.numerals.specs.NumeralLaws.{number-laid}
 use native.Mathlib.Omega.{arith}
 use borrow.Author.Needs.{needs}
-use Rattle.tally.proofs.text.put_number.Statement.{statement}
-use Rattle.tally.proofs.text.put_number.Tie as tie
+use Rattle.numerals.proofs.put_number.Statement.{statement}
+use Rattle.numerals.proofs.put_number.Tie as tie
 
 spell-requires : tie.Need-spell-requires
 spell-requires c κs = search needs
