@@ -105,7 +105,7 @@ module _ (q : Port) (h : SoundPort q) where
   pub one-control : contents .control .count ≡ 1
   one-control = ap (λ (x : Values). x .control .count) (read-back .values)
 
-  control-read : valueOf (frame q) (contents .control) ≡ controlValue (q .control)
+  pub control-read : valueOf (frame q) (contents .control) ≡ controlValue (q .control)
   control-read = ap (λ (x : Values). x .control .value) (read-back .values)
 
   part-read : (max : ℕ) (x : Release) (c : Counted) → c ≡ partCounted (partOf max x) → (b : Bool) → x .setting .advertise ≡ b →

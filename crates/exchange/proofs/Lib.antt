@@ -32,3 +32,4 @@ pub mod NotEmpty
 pub mod Tight
 pub mod Steady
 pub mod Revisions
+pub mod RoundTrip

@@ -54,7 +54,7 @@ judged-error f s oper peer e d = simp judged-by (judgedBy-error _ _ _ (s .willin
 
 -- ---- flags are read as they are written
 
-flag-enable : (en wi er : Bool) → (128 atmost flags en wi er) ≡ en
+pub flag-enable : (en wi er : Bool) → (128 atmost flags en wi er) ≡ en
 flag-enable true true true = refl
 flag-enable true true false = refl
 flag-enable true false true = refl
@@ -64,7 +64,7 @@ flag-enable false true false = refl
 flag-enable false false true = refl
 flag-enable false false false = refl
 
-flag-willing : (en wi er : Bool) → (64 atmost flags en wi er % 128) ≡ wi
+pub flag-willing : (en wi er : Bool) → (64 atmost flags en wi er % 128) ≡ wi
 flag-willing true true true = refl
 flag-willing true true false = refl
 flag-willing true false true = refl
@@ -74,7 +74,7 @@ flag-willing false true false = refl
 flag-willing false false true = refl
 flag-willing false false false = refl
 
-flag-error : (en wi er : Bool) → (32 atmost flags en wi er % 64) ≡ er
+pub flag-error : (en wi er : Bool) → (32 atmost flags en wi er % 64) ≡ er
 flag-error true true true = refl
 flag-error true true false = refl
 flag-error true false true = refl

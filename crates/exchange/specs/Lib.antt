@@ -6,3 +6,4 @@ pub mod Recorders
 pub mod Handover
 pub mod Starting
 pub mod Revisions
+pub mod RoundTrip
