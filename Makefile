@@ -7,12 +7,13 @@ CARGO := cargo --offline --quiet
 REFERENCE := --release --manifest-path tests/reference/Cargo.toml
 COMPARE := --release --manifest-path tests/compare/Cargo.toml
 VERDICT := .ci/verdict
+BESIDE := .ci/beside
 VERSION := 0.1
 PREFIX ?= /usr/local
 LIBRARY := target/staticlib/libsternquast.a
 CHECKED := gcc -std=c11 -Wall -Wextra -Werror -g -fsanitize=address,undefined -fno-sanitize-recover=all
 
-.PHONY: run test library install judge bench check-time tshark
+.PHONY: run test library install judge terminal bench check-time tshark
 
 # Only what rt says of each crate is shown; the rest stays in target/log.
 run:
@@ -20,15 +21,16 @@ run:
 	@echo
 	target/bin/pair < examples/two-recorders.txt
 
-# What needs the proved library and programs runs over what `rt ci` has left in target/; its verdict comes last again.
+# The reference's own tests run beside `rt ci`, which at first proves one crate after the other. What needs the proved library and
+# programs runs over what it has left in target/; its verdict comes last again.
 test:
-	$(CARGO) test $(REFERENCE)
-	rt ci | tee $(VERDICT)
+	$(CARGO) test $(REFERENCE) > $(BESIDE) 2>&1 & beside=$$!; rt ci | tee $(VERDICT) && { wait $$beside || { cat $(BESIDE); exit 1; }; }
 	rt staticlib trial
 	$(MAKE) judge
 	target/judge/test
 	$(CARGO) test $(COMPARE) -- --nocapture
 	tests/runs/check.sh target/bin
+	$(MAKE) terminal
 	@tail -n 1 $(VERDICT)
 
 library:
@@ -46,10 +48,16 @@ judge:
 	$(CHECKED) -Itarget/judge/include tests/judge/judge.c -Ltarget/judge/lib -lsternquast -o target/judge/test
 	$(CHECKED) -Itarget/judge/include examples/judge.c -Ltarget/judge/lib -lsternquast -o target/judge/example
 
+# Programs that read captures tell a terminal how far they are.
+terminal:
+	install -d target/terminal
+	$(CHECKED) -D_GNU_SOURCE tests/terminal/terminal.c -o target/terminal/test
+	target/terminal/test target/bin/replay < examples/two-recorders.txt
+	target/terminal/test target/bin/conform < examples/one-port.txt
+
 bench:
 	rt staticlib trial
-	rt check replay
-	rt check desk
+	rt check replay conform desk
 	$(CARGO) build $(REFERENCE) --bins
 	$(CARGO) run $(COMPARE) --bin bench
 

@@ -1,5 +1,5 @@
 #!/bin/sh
-# check.sh PROGRAM_DIR: runs desk, pair and replay of that folder over each stored input NAME.in, with the words of
+# check.sh PROGRAM_DIR: runs desk, pair, replay and conform of that folder over each stored input NAME.in, with the words of
 # NAME.arguments where there are any, and compares what they write with NAME.out, and on standard error with NAME.err or
 # nothing. Then faults: an output that is full, an input that cannot be read. Ends with 0 if all is the same.
 set -u
@@ -19,7 +19,7 @@ judge() {
     fi
 }
 
-for program in desk pair replay; do
+for program in desk pair replay conform; do
     for input in "$program"/*.in; do
         run=${input%.in}
         words= errors=/dev/null

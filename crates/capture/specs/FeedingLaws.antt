@@ -16,7 +16,6 @@ use Rattle.capture.specs.Feeding.{inTurn, joined, Fed, fedFrom, heldFed,
 use Rattle.capture.specs.HoldLaws.{pending-held, clipped-twice}
 
 module _ {A : Type 0} (step : A → List ℕ → A) where
-
   -- ---- lines that end in a read
 
   -- the first line that ends in s, of whatever front, is w as a whole
@@ -138,7 +137,6 @@ module _ {A : Type 0} (step : A → List ℕ → A) where
   -- ---- a read. Of a line that is too long only the front is held: it must do what the whole line does.
 
   module _ (long : (t : A) (w : List ℕ) → step t (clipped w) ≡ step t w) where
-
     module _ (t : A) (r s : List ℕ) {n : ℕ} {piece : List ℕ} {h : Held} (p : Before s n) (ep : piece ≡ take n s) (eh : h ≡ heldOf (clipped (r ++ piece))) where
       pub feed-none : length s ≤ n → {R : Type 0} (make : A → Held → R) → make t h ≡ heldFed make (fedFrom step t r s)
       unfolding heldFed
@@ -175,7 +173,6 @@ module _ {A : Type 0} (step : A → List ℕ → A) where
     fed-append (c ∷ s) u t w = append-step (c is 10) t w c s u (fed-append s u (step t w) []) (fed-append s u t (w ++ (c ∷ [])))
 
     module _ {R : Type 0} (make : A → Held → R) where
-
       -- ---- what is cut off of a long line makes no difference
 
       clip-step : (b : Bool) (t : A) (w : List ℕ) (c : ℕ) (s : List ℕ)
@@ -196,7 +193,6 @@ module _ {A : Type 0} (step : A → List ℕ → A) where
       -- ---- all reads, where one gives what it is given with
 
       module _ (feed : R → List ℕ → R) (fed : (t : A) (h : Held) (s : List ℕ) → feed (make t h) s ≡ heldFed make (fedFrom step t (pending h) s)) where
-
         fed-one : (s : List ℕ) (t : A) (w : List ℕ) → feed (heldFed make (record { value = t; rest = w })) s ≡ heldFed make (fedFrom step t w s)
         unfolding heldFed
         fed-one s t w = fed t (heldOf (clipped w)) s ∙ rw (pending-held (clipped w)) (fed-clipped s t w)
@@ -211,7 +207,6 @@ module _ {A : Type 0} (step : A → List ℕ → A) where
       -- ---- the end
 
       module _ (finish : R → A) (finished : (t : A) (h : Held) → finish (make t h) ≡ ended step t h) where
-
         held-count : (w : List ℕ) → heldOf w .n ≡ length w
         unfolding heldOf
         held-count w = refl

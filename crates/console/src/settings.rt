@@ -75,6 +75,13 @@ pub struct Pair {
     pub b: Settings,
 }
 
+// The settings of one end, as those of two.
+pub struct Single {
+    pub good: bool,
+    pub at: usize,
+    pub end: Settings,
+}
+
 // The recorder that the settings make, if they are `good`; behind them the events begin. The output holds the answers to its
 // creation, or what is wrong with the settings, up to `at`.
 pub struct Start {
@@ -455,34 +462,55 @@ fn behind_settings(buffer: &mut [u8], out: &mut [u8], l: Lines, alone: bool) -> 
     }
 }
 
-// What is said of two ends' settings that were read.
-fn judged(out: &mut [u8], a: Settings, b: Settings) -> Told {
-    let of_a = first_invalid(a);
-    if of_a.line != 0 {
-        return Told {
-            good: false,
-            at: refuse(out, of_a),
-        };
+// What is said of an end's settings that were read.
+fn judged(out: &mut [u8], s: Settings) -> Told {
+    let invalid = first_invalid(s);
+    if invalid.line == 0 {
+        return Told { good: true, at: 0 };
     }
-    let of_b = first_invalid(b);
-    if of_b.line != 0 {
-        return Told {
-            good: false,
-            at: refuse(out, of_b),
-        };
+    Told {
+        good: false,
+        at: refuse(out, invalid),
     }
-    Told { good: true, at: 0 }
+}
+
+// What is said of the settings up to their last line, and of the lines behind them.
+fn told_of_lines(buffer: &mut [u8], out: &mut [u8], last: Settings, alone: bool) -> Told {
+    if !last.good {
+        return unread_settings(out, buffer, last);
+    }
+    behind_settings(buffer, out, last.lines, alone)
 }
 
 fn told_of_pair(buffer: &mut [u8], out: &mut [u8], a: Settings, b: Settings, alone: bool) -> Told {
-    if !b.good {
-        return unread_settings(out, buffer, b);
-    }
-    let told = behind_settings(buffer, out, b.lines, alone);
+    let told = told_of_lines(buffer, out, b, alone);
     if !told.good {
         return told;
     }
-    judged(out, a, b)
+    let of_a = judged(out, a);
+    if !of_a.good {
+        return of_a;
+    }
+    judged(out, b)
+}
+
+fn told_of_single(buffer: &mut [u8], out: &mut [u8], s: Settings, alone: bool) -> Told {
+    let told = told_of_lines(buffer, out, s, alone);
+    if !told.good {
+        return told;
+    }
+    judged(out, s)
+}
+
+// Reads the settings of one end, and puts what is wrong with them. `alone` says that nothing may stand behind them.
+pub fn read_single(buffer: &mut [u8], out: &mut [u8], l: Lines, alone: bool) -> Single {
+    let end = read_port(buffer, l, false);
+    let told = told_of_single(buffer, out, end, alone);
+    Single {
+        good: told.good,
+        at: told.at,
+        end: end,
+    }
 }
 
 // The settings of B; those of A again, if they cannot be read.

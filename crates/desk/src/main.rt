@@ -3,26 +3,14 @@ use console::Lines;
 use console::arguments::Source;
 use recorder::Recorder;
 
+mod answers;
+
 // What an answer may take of the output; the longest, of `show`, is shorter.
 const ROOM: usize = 16384;
 
-// Writes octets to standard output, and where that fails says so on standard error.
-fn write(s: &[u8]) -> bool {
-    if io::write_all(libc::STDOUT_FILENO, s) {
-        return true;
-    }
-    io::write_all(libc::STDERR_FILENO, b"desk: cannot write\n");
-    false
-}
-
 // Writes out what stands before `at`.
 fn flush(output: &[u8], at: usize) -> bool {
-    write(octets::first(output, at))
-}
-
-// Says on standard error that a read has failed.
-fn cannot_read() {
-    io::write_all(libc::STDERR_FILENO, b"desk: cannot read\n");
+    console::streams::write(b"desk", octets::first(output, at))
 }
 
 // The line that was found, and where its answer goes.
@@ -62,7 +50,7 @@ fn read_on(input: &mut [u8], output: &[u8], l: Lines, at: usize) -> Lines {
     }
     let lines = console::fetch(input, l);
     if lines.failed {
-        cannot_read();
+        console::streams::cannot_read(b"desk");
     }
     lines
 }
@@ -100,25 +88,17 @@ fn run(input: &mut [u8], output: &mut [u8], start: Recorder, first: Lines, behin
         let from = report::ports::first(output, p.at, w.given, w.number);
         let i = recorder::place_of(w.number);
         if script::is_frame(said) {
-            let e = console::answers::handle(w.number, held.ports[i], said);
+            let e = answers::handle(w.number, held.ports[i], said);
             let port = e.port;
             held.ports[i] = port;
             if !recorder::is_silent(e.notices) {
                 let log = recorder::keep(held.log, w.number, e.notices);
                 held.log = log;
             }
-            at = console::answers::answered(output, from, w, e);
+            at = answers::answered(output, from, w, e);
             continue;
         }
-        let s = console::answers::event(
-            output,
-            from,
-            w,
-            held.ports[i],
-            held.log,
-            lines.number,
-            said,
-        );
+        let s = answers::event(output, from, w, held.ports[i], held.log, lines.number, said);
         let port = s.port;
         let log = s.log;
         held.ports[i] = port;
@@ -127,28 +107,25 @@ fn run(input: &mut [u8], output: &mut [u8], start: Recorder, first: Lines, behin
     }
 }
 
-// Where the events begin: behind the settings, or where these stand alone in a file, in standard input.
-fn events(l: Lines, alone: bool) -> Lines {
-    if !alone {
-        return l;
-    }
-    libc::close(l.fd);
-    console::start(libc::STDIN_FILENO)
-}
-
 // Reads the settings from a descriptor, and if nothing is wrong with them runs the events.
 fn serve(input: &mut [u8], output: &mut [u8], fd: i32, alone: bool) {
     let s = console::settings::read_recorder(input, output, console::start(fd), alone);
     let lines = s.lines;
     if lines.failed {
-        cannot_read();
+        console::streams::cannot_read(b"desk");
         return;
     }
     if !s.good {
         flush(output, s.at);
         return;
     }
-    run(input, output, s.recorder, events(lines, alone), s.at);
+    run(
+        input,
+        output,
+        s.recorder,
+        console::streams::behind_settings(lines, alone),
+        s.at,
+    );
 }
 
 // Writes that the settings cannot be had.
@@ -168,8 +145,8 @@ standard input; without it both are read from standard input.
 In the answer to show, syncd 1 of an advertised feature means that the other end
 has handled a frame with its present sub-TLV since that last changed, provided
 that both ends were fresh together, run with one neighbour, were not restarted
-or told since that the peer is gone, and take no frames but each other's, none
-after its sender has written a later one.
+or told since that the peer is gone, and take no frames but each other's, all
+written since then and none after its sender has written a later one.
 
 Example:
 control max 0
@@ -181,11 +158,7 @@ show
 
 docs/FORMATS.md describes all lines and answers.
 ";
-    if asked {
-        write(text);
-        return;
-    }
-    io::write_all(libc::STDERR_FILENO, text);
+    console::streams::usage(b"desk", text, asked);
 }
 
 fn main() {

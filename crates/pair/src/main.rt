@@ -235,27 +235,20 @@ fn said(input: &mut [u8], out: &mut [u8], l: Lines) -> usize {
     compared(out, s.a, s.b)
 }
 
-// Writes octets to standard output, and where that fails says so on standard error.
-fn write(s: &[u8]) {
-    if !io::write_all(libc::STDOUT_FILENO, s) {
-        io::write_all(libc::STDERR_FILENO, b"pair: cannot write\n");
-    }
-}
-
 // Reads the settings from a descriptor, and writes what is to be said of them.
 fn serve(input: &mut [u8], output: &mut [u8], fd: i32) {
     let at = said(input, output, console::start(fd));
     if at == 0 {
-        io::write_all(libc::STDERR_FILENO, b"pair: cannot read\n");
+        console::streams::cannot_read(b"pair");
         return;
     }
-    write(octets::first(output, at));
+    console::streams::write(b"pair", octets::first(output, at));
 }
 
 // Writes that the settings cannot be had.
 fn report_unopened(output: &mut [u8], file: &[u8]) {
     let at = report::answers::unopened(output, 0, file);
-    write(octets::first(output, at));
+    console::streams::write(b"pair", octets::first(output, at));
 }
 
 // Writes the usage, to standard output where help was asked for, and otherwise to standard error.
@@ -277,11 +270,7 @@ applications max 0 advertise 1 enable 1 willing 0 ethertype 8906 08
 
 docs/FORMATS.md describes the settings and the report.
 ";
-    if asked {
-        write(text);
-        return;
-    }
-    io::write_all(libc::STDERR_FILENO, text);
+    console::streams::usage(b"pair", text, asked);
 }
 
 fn main() {

@@ -5,52 +5,15 @@ use console::settings::Pair;
 use tally::Replay;
 use tally::Tally;
 
-// A terminal is told how far the reading is every so many lines.
-const SHOWN: u64 = 1000000;
-
-// Writes octets to standard output, and where that fails says so on standard error.
-fn write(s: &[u8]) -> bool {
-    if io::write_all(libc::STDOUT_FILENO, s) {
-        return true;
-    }
-    io::write_all(libc::STDERR_FILENO, b"replay: cannot write\n");
-    false
-}
-
-// Says on standard error that a read has failed.
-fn cannot_read() {
-    io::write_all(libc::STDERR_FILENO, b"replay: cannot read\n");
-}
-
-// Says that the settings are bad, and on standard error why: what stands in the output before `at`.
-fn refuse(output: &[u8], at: usize) {
-    if write(b"bad settings\n") {
-        io::write_all(libc::STDERR_FILENO, octets::first(output, at));
-    }
-}
-
-// Shows a terminal how many lines were read, in place of what was shown before; gives what is shown now.
-fn show(terminal: bool, shown: u64, t: Tally) -> u64 {
+// How many lines were read.
+fn lines_of(t: Tally) -> u64 {
     let frames = std::num::wrapping_add_u64(t.from_a, t.from_b);
-    let lines = std::num::wrapping_add_u64(frames, t.others) / SHOWN * SHOWN;
-    if !terminal | (lines == shown) {
-        return shown;
-    }
-    let mut text = io::buffer();
-    let numbers = [lines];
-    let n = report::forms::put(&mut text, 0, b"\rreplay: # lines", &numbers);
-    io::write_all(libc::STDERR_FILENO, octets::first(&text, n));
-    lines
+    std::num::wrapping_add_u64(frames, t.others)
 }
 
-// Clears what is shown.
-fn clear(shown: u64) {
-    if shown != 0 {
-        io::write_all(
-            libc::STDERR_FILENO,
-            b"\r                                  \r",
-        );
-    }
+// Shows a terminal how far the reading is.
+fn show(terminal: bool, shown: u64, t: Tally) -> u64 {
+    console::streams::show(b"replay", terminal, shown, lines_of(t))
 }
 
 // The counts at the end of the input, or where a read has failed.
@@ -75,20 +38,11 @@ fn feed_all(input: &mut [u8], start: Replay, first: Lines) -> Ended {
         }
         lines = console::more(input, console::pass_rest(lines));
     }
-    clear(shown);
+    console::streams::clear(shown);
     Ended {
         tally: tally::finish(r),
         failed: lines.failed,
     }
-}
-
-// Where the capture begins: behind the settings, or where these stand alone in a file, in standard input.
-fn capture_behind(l: Lines, alone: bool) -> Lines {
-    if !alone {
-        return l;
-    }
-    libc::close(l.fd);
-    console::start(libc::STDIN_FILENO)
 }
 
 // Creates both ends, replays the capture, and reports.
@@ -98,13 +52,17 @@ fn run(input: &mut [u8], output: &mut [u8], s: Pair, alone: bool) {
         console::settings::port_with(s.a),
         console::settings::port_with(b),
     );
-    let ended = feed_all(input, start, capture_behind(b.lines, alone));
+    let ended = feed_all(
+        input,
+        start,
+        console::streams::behind_settings(b.lines, alone),
+    );
     if ended.failed {
-        cannot_read();
+        console::streams::cannot_read(b"replay");
         return;
     }
     let n = tally::text::report(ended.tally, output);
-    write(octets::first(output, n));
+    console::streams::write(b"replay", octets::first(output, n));
 }
 
 // Reads the settings from a descriptor, and if nothing is wrong with them runs the capture.
@@ -114,17 +72,17 @@ fn serve(input: &mut [u8], output: &mut [u8], fd: i32, alone: bool) {
         run(input, output, s, alone);
         return;
     }
-    if s.at == 0 {
-        cannot_read();
+    if !alone & (s.at == 0) {
+        console::streams::cannot_read(b"replay");
         return;
     }
-    refuse(output, s.at);
+    console::streams::refuse(b"replay", output, s.at);
 }
 
 // Says that the settings cannot be had.
 fn refuse_unopened(output: &mut [u8], file: &[u8]) {
     let at = report::answers::unopened(output, 0, file);
-    refuse(output, at);
+    console::streams::refuse(b"replay", output, at);
 }
 
 // Writes the usage, to standard output where help was asked for, and otherwise to standard error.
@@ -150,11 +108,7 @@ B fe10001b2102020a00000000000100000001
 
 docs/FORMATS.md describes the settings, the capture and the report.
 ";
-    if asked {
-        write(text);
-        return;
-    }
-    io::write_all(libc::STDERR_FILENO, text);
+    console::streams::usage(b"replay", text, asked);
 }
 
 fn main() {

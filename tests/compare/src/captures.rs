@@ -1,11 +1,17 @@
 //! Random inputs of `replay` (docs/FORMATS.md): settings of two ends, and captures of what they and others write.
 
 use crate::words::hex;
-use reference::events::{random, Generator, OwnedSettings};
+use reference::events::{random, Generator};
 use reference::layout::LONGEST_FRAME;
 use reference::rng::XorShift;
-use reference::rounds::Ends;
 use reference::text::Text;
+use reference::Port;
+use std::io::{ErrorKind, Write};
+use std::path::Path;
+use std::process::{Command, Output, Stdio};
+
+/// The most parts that an input is written in.
+const PARTS: usize = 8;
 
 /// One input, whose settings stand in front of the capture or in a file of their own.
 #[derive(Debug)]
@@ -13,6 +19,32 @@ pub struct Input {
     pub settings: Vec<u8>,
     pub capture: Vec<u8>,
     pub in_file: bool,
+}
+
+impl Input {
+    /// Runs a program over it, part by part. This file has the settings.
+    pub fn run(&self, program: &Path, settings: &Path) -> Output {
+        let mut command = Command::new(program);
+        let mut octets = self.capture.clone();
+        if self.in_file {
+            command.arg(settings);
+        } else {
+            octets.splice(..0, self.settings.iter().copied());
+        }
+        let piped = command.stdin(Stdio::piped()).stdout(Stdio::piped()).stderr(Stdio::piped());
+        let mut child =
+            piped.spawn().unwrap_or_else(|error| panic!("{}: {error}", program.display()));
+        let mut stdin = child.stdin.take().expect("piped");
+        for part in octets.chunks(octets.len() / PARTS + 1) {
+            match stdin.write_all(part) {
+                // Not all is always read.
+                Err(error) if error.kind() == ErrorKind::BrokenPipe => break,
+                written => written.expect("the input"),
+            }
+        }
+        drop(stdin);
+        child.wait_with_output().expect("the output")
+    }
 }
 
 /// Makes inputs without end.
@@ -26,7 +58,7 @@ const A: u8 = 1;
 const B: u8 = 2;
 
 /// What a line or a word may hold by mistake.
-const MISTAKES: &[u8] = b" \t\r\n#,;:0123456789abcdefgABFGx/`\0\x7f\xff";
+pub(crate) const MISTAKES: &[u8] = b" \t\r\n#,;:0123456789abcdefgABFGx/`\0\x7f\xff";
 
 impl Captures {
     pub fn new(seed: u64) -> Self {
@@ -38,36 +70,10 @@ impl Captures {
         let a = random::settings(rng);
         let b = random::settings_near(rng, &a);
         let in_file = rng.flip();
-        let ends = [a, b];
-        self.generator.start_ends(&ends);
-        Input { settings: self.settings(&ends, in_file), capture: self.capture(), in_file }
-    }
-
-    /// The lines of settings, now and then with something wrong.
-    fn settings(&mut self, ends: &[OwnedSettings; 2], in_file: bool) -> Vec<u8> {
-        let rng = &mut self.rng;
-        let mut text = Text::default();
-        for port in Ends::create(ends).ends() {
-            text.settings_lines(port);
-        }
-        let mut lines: Vec<Vec<u8>> =
-            text.0.split_inclusive(|&octet| octet == b'\n').map(<[u8]>::to_vec).collect();
-        if rng.percent(8) {
-            mistake(rng, &mut lines);
-        }
-        if rng.percent(30) {
-            // Behind the last line they are the capture's, but in a file.
-            let places = lines.len() as u32 + u32::from(in_file);
-            for _ in 0..1 + rng.below(4) {
-                let line = rng.pick(&[&b"\n"[..], b"#\n", b"# A fe\r\n", b"#control max 0\n"]);
-                lines.insert(rng.below(places) as usize, line.to_vec());
-            }
-        }
-        let mut text = lines.concat();
-        if in_file && rng.percent(20) {
-            text.pop();
-        }
-        text
+        self.generator.start_ends(&[a, b]);
+        let ports = &self.generator.recorder().ports()[..2];
+        let settings = settings(&mut self.rng, ports, in_file);
+        Input { settings, capture: self.capture(), in_file }
     }
 
     fn capture(&mut self) -> Vec<u8> {
@@ -167,6 +173,32 @@ impl Captures {
 fn frame_line(to: u8, frame: &[u8]) -> Vec<u8> {
     let sender = if to == A { 'B' } else { 'A' };
     format!("{sender} {}\n", hex(frame)).into_bytes()
+}
+
+/// The lines of settings, now and then with something wrong.
+pub(crate) fn settings(rng: &mut XorShift, ports: &[Port], in_file: bool) -> Vec<u8> {
+    let mut text = Text::default();
+    for port in ports {
+        text.settings_lines(port);
+    }
+    let mut lines: Vec<Vec<u8>> =
+        text.0.split_inclusive(|&octet| octet == b'\n').map(<[u8]>::to_vec).collect();
+    if rng.percent(8) {
+        mistake(rng, &mut lines);
+    }
+    if rng.percent(30) {
+        // Behind the last line they are the capture's, but in a file.
+        let places = lines.len() as u32 + u32::from(in_file);
+        for _ in 0..1 + rng.below(4) {
+            let line = rng.pick(&[&b"\n"[..], b"#\n", b"# A fe\r\n", b"#control max 0\n"]);
+            lines.insert(rng.below(places) as usize, line.to_vec());
+        }
+    }
+    let mut text = lines.concat();
+    if in_file && rng.percent(20) {
+        text.pop();
+    }
+    text
 }
 
 /// One line too few or too many, an octet or a number that is wrong, or a carriage return. Some of these can be

@@ -1,9 +1,11 @@
 //! The proved engine (crates/trial) beside the reference engine.
 
 pub mod captures;
+pub mod desk_runs;
 pub mod engine;
 pub mod environment;
 pub mod script;
+pub mod transcripts;
 pub mod words;
 
 pub use script::{Script, Step, What};

@@ -34,15 +34,11 @@ fn settings_lines(number: u8, port: &Port) -> String {
     lines.join("\n")
 }
 
-/// The line of an event. What a desk's line cannot say stands behind `#`.
-fn event_line(port: u8, event: &Event) -> String {
+/// An event as a line without a port; none of what such a line cannot say.
+pub fn event_words(event: &Event) -> Option<String> {
     match event {
-        Event::Create(settings) => format!("# a creation at port {port}: {settings:?}"),
-        Event::Frame(octets) if octets.len() > 513 => {
-            format!("# too long: {port} B {}", hex(octets))
-        }
-        Event::Frame(octets) => format!("{port} B {}", hex(octets)),
-        Event::PeerGone => format!("{port} gone"),
+        Event::Frame(octets) if octets.len() <= 513 => Some(format!("B {}", hex(octets))),
+        Event::PeerGone => Some("gone".into()),
         Event::SetFlag(flag, on) => {
             let name = match flag {
                 Flag::Enabled => "admin",
@@ -50,15 +46,22 @@ fn event_line(port: u8, event: &Event) -> String {
                 Flag::Transmit => "transmit",
                 Flag::SeveralNeighbours => "several",
             };
-            format!("{port} {name} {}", u8::from(*on))
+            Some(format!("{name} {}", u8::from(*on)))
         }
-        Event::Change { feature, setting } => {
-            let long = setting.parameters.len() > 507;
-            let said = if long { "# too long: " } else { "" };
-            format!("{said}{port} set {feature} {}", setting_words(setting))
+        Event::Change { feature, setting } if setting.parameters.len() <= 507 => {
+            Some(format!("set {feature} {}", setting_words(setting)))
         }
-        Event::Write(room) => format!("{port} write {room}"),
-        Event::Take => format!("{port} take"),
+        Event::Write(room) => Some(format!("write {room}")),
+        Event::Take => Some("take".into()),
+        _ => None,
+    }
+}
+
+/// The line of an event. What a desk's line cannot say stands behind `#`.
+fn event_line(port: u8, event: &Event) -> String {
+    match event_words(event) {
+        Some(words) => format!("{port} {words}"),
+        None => format!("# no line, port {port}: {event:?}"),
     }
 }
 

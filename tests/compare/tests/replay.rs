@@ -3,43 +3,16 @@
 //!
 //! COMPARE_SEED and COMPARE_CAPTURES give another seed and another number of captures.
 
-use compare::captures::{Captures, Input};
+use compare::captures::Captures;
 use compare::{environment, programs};
-use std::io::{ErrorKind, Write};
 use std::path::{Path, PathBuf};
-use std::process::{Command, Output, Stdio};
 
 const SEED: u64 = 0x0dcb_0e08;
 const CAPTURES: u64 = 4_000;
-/// The most parts that an input is written in.
-const PARTS: usize = 8;
 
 /// Where an input's settings stand, and an input at which the programs differ.
 fn file(name: &str) -> PathBuf {
     Path::new(env!("CARGO_TARGET_TMPDIR")).join(name)
-}
-
-/// Runs a program over an input, which is written part by part.
-fn run(program: &Path, input: &Input) -> Output {
-    let mut command = Command::new(program);
-    let mut octets = input.capture.clone();
-    if input.in_file {
-        command.arg(file("replay.settings"));
-    } else {
-        octets.splice(..0, input.settings.iter().copied());
-    }
-    let piped = command.stdin(Stdio::piped()).stdout(Stdio::piped()).stderr(Stdio::piped());
-    let mut child = piped.spawn().unwrap_or_else(|error| panic!("{}: {error}", program.display()));
-    let mut stdin = child.stdin.take().expect("piped");
-    for part in octets.chunks(octets.len() / PARTS + 1) {
-        match stdin.write_all(part) {
-            // Behind settings that cannot be used nothing is read.
-            Err(error) if error.kind() == ErrorKind::BrokenPipe => break,
-            written => written.expect("the input"),
-        }
-    }
-    drop(stdin);
-    child.wait_with_output().expect("the output")
 }
 
 /// How often each number of a report was not 0, and each last line was written.
@@ -91,13 +64,14 @@ fn the_programs_agree() {
     let mut coverage = Coverage::default();
     for i in 0..captures {
         let input = source.next_input();
-        std::fs::write(file("replay.settings"), &input.settings).expect("the settings");
-        let [engine, reference] = programs.each_ref().map(|program| run(program, &input));
+        let settings = file("replay.settings");
+        std::fs::write(&settings, &input.settings).expect("the settings");
+        let [engine, reference] = programs.each_ref().map(|program| input.run(program, &settings));
         if engine != reference {
             std::fs::write(file("replay.capture"), &input.capture).expect("the capture");
             panic!(
                 "the programs differ at capture {i}: {}, {}{}\nengine: {engine:?}\nreference: {reference:?}",
-                file("replay.settings").display(),
+                settings.display(),
                 file("replay.capture").display(),
                 if input.in_file { "" } else { " (one behind the other)" }
             );

@@ -1,11 +1,9 @@
 //! A capture: one frame a line (docs/FORMATS.md).
 
-use crate::words;
+use crate::words::{self, LONGEST_LINE};
 
-/// The most octets of a frame that a line names.
+/// The most octets of a frame that a line names. Such a line is not among the longest.
 const MOST_OCTETS: usize = 513;
-/// The most octets of a line that is a frame: its sender, a space, two digits an octet.
-const LONGEST_LINE: usize = 2 + 2 * MOST_OCTETS;
 
 /// The end that sent a frame.
 #[derive(Clone, Copy, Debug, PartialEq, Eq)]
@@ -29,8 +27,7 @@ pub fn frame(line: &[u8], octets: &mut Vec<u8>) -> Option<Sender> {
 /// Cuts an input into its lines, wherever the blocks that it comes in begin and end.
 #[derive(Debug, Default)]
 pub struct Cutter {
-    /// What came of a line that did not end yet. One that is too long for a frame is kept just so far
-    /// that it still is.
+    /// What came of a line that did not end yet. One that is too long is kept just so far that it still is.
     begun: Vec<u8>,
 }
 

@@ -575,6 +575,12 @@ impl Generator {
         (call, answer)
     }
 
+    /// Something for one port, made from its state and its peer's.
+    pub fn event(&mut self, port: u8) -> Event {
+        let state = self.recorder.ports()[usize::from(port) - 1].clone();
+        self.choose(port, &state)
+    }
+
     fn call(&mut self) -> Call {
         if let Some(port) = self.unmade.pop() {
             let settings = self.settings(port);
@@ -586,8 +592,7 @@ impl Generator {
         }
         // At a number that is no port's, something that would be good at a port.
         let like = if is_port(port) { port } else { 1 + port % PORTS as u8 };
-        let state = self.recorder.ports()[usize::from(like) - 1].clone();
-        Call { port, event: self.choose(like, &state) }
+        Call { port, event: self.event(like) }
     }
 
     fn next_port(&mut self) -> u8 {

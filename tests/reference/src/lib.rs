@@ -6,6 +6,8 @@
 //! forms of the programs do.
 
 pub mod capture;
+pub mod change;
+pub mod conform;
 pub mod dump;
 pub mod events;
 pub mod layout;
@@ -21,6 +23,7 @@ pub mod rng;
 pub mod rounds;
 pub mod settings;
 pub mod setup;
+pub mod show;
 pub mod text;
 pub mod why;
 pub mod words;

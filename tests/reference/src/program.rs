@@ -5,12 +5,14 @@ use crate::setup::{Behind, Failure};
 use crate::text::{Fault, Text};
 use std::ffi::OsStr;
 use std::fs::File;
-use std::io::{self, Write};
+use std::io::{self, IsTerminal, Write};
 use std::os::fd::AsFd;
 use std::os::unix::ffi::OsStrExt;
 
 /// The most octets of an argument.
 const LONGEST_ARGUMENT: usize = 4095;
+/// Lines between two signs of progress.
+const STEP: u64 = 1_000_000;
 
 /// Where the settings come from.
 pub enum Source {
@@ -80,6 +82,50 @@ pub fn say(text: &[u8]) -> Result<(), Fault> {
 /// Writes to standard error; where that fails, nobody is left to be told.
 pub fn tell(text: &[u8]) {
     let _ = io::stderr().write_all(text);
+}
+
+/// Standard output has no more than that settings cannot be used; standard error says why.
+pub fn bad_settings(why: &[u8]) -> Result<(), Fault> {
+    say(b"bad settings\n")?;
+    tell(why);
+    Ok(())
+}
+
+/// Settings that were read; those that cannot be read from their file are bad ones too.
+pub fn settings<T>(behind: Behind, read: Result<T, Failure>) -> Result<T, Failure> {
+    if let (Behind::Nothing, Err(Failure::Fault(Fault::Read))) = (behind, &read) {
+        say(b"bad settings\n")?;
+    }
+    read
+}
+
+/// How far the work is, for one who watches: a line on standard error that is
+/// rewritten in place, and gone in the end.
+pub struct Progress {
+    name: &'static str,
+    watched: bool,
+    shown: u64,
+}
+
+impl Progress {
+    pub fn new(name: &'static str) -> Self {
+        Progress { name, watched: io::stderr().is_terminal(), shown: 0 }
+    }
+
+    pub fn show(&mut self, lines: u64) {
+        if self.watched && lines / STEP > self.shown / STEP {
+            self.shown = lines - lines % STEP;
+            tell(format!("\r{}: {} lines", self.name, self.shown).as_bytes());
+        }
+    }
+}
+
+impl Drop for Progress {
+    fn drop(&mut self) {
+        if self.shown > 0 {
+            tell(b"\r\x1b[K");
+        }
+    }
 }
 
 /// Standard input. That of std takes some failures for the end.

@@ -76,6 +76,22 @@ struct OnePort {
 /// Takes a line with a port in front, or without.
 type Split = fn(&[u8]) -> Line;
 
+/// The settings of one end, whose lines name no port.
+pub fn one_end<R: Read, W: Write>(
+    lines: &mut Lines<R, W>,
+    behind: Behind,
+    out: &mut Text,
+) -> Result<OwnedSettings, Failure> {
+    let end = one_port(lines, out, Line::without_port, &[])?;
+    if behind == Behind::Nothing {
+        nothing(lines, out)?;
+    }
+    match end.refused {
+        Some(bad) => Err(Failure::Settings(bad)),
+        None => Ok(end.read.settings),
+    }
+}
+
 /// The settings of two ends, whose lines name no port.
 pub fn two_ends<R: Read, W: Write>(
     lines: &mut Lines<R, W>,

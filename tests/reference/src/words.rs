@@ -7,7 +7,7 @@ use crate::text::{place_name, SELECTORS};
 use std::fmt;
 
 /// The most octets of a line.
-const LONGEST_LINE: usize = 1100;
+pub const LONGEST_LINE: usize = 1100;
 
 /// What is due in place of a word.
 #[derive(Clone, Copy, Debug, PartialEq, Eq)]

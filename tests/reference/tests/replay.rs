@@ -1,6 +1,7 @@
 //! Document 02, E8: what is counted of a capture.
 
 mod common;
+use common::captures::{self, line, masks, no_frames, refused_frames, sent, Exchange};
 use common::*;
 use reference::capture::Cutter;
 use reference::events::OwnedSettings;
@@ -44,12 +45,6 @@ fn silent_ends() -> [OwnedSettings; 2] {
     [settings.clone(), settings]
 }
 
-fn line(sender: char, octets: &[u8]) -> String {
-    let mut text = Text::default();
-    text.octets(octets);
-    format!("{sender} {}\n", String::from_utf8(text.0).unwrap())
-}
-
 const NO_REFUSALS: &str = "0 0 0 0 0 0 0 0";
 const NONE: &str = "0 0 0 0 0 0 0 0";
 const ABSENT: &str = "1 0 0 0 0 0 0 0";
@@ -62,119 +57,46 @@ fn expected(lines: &str, a: [&str; 3], b: [&str; 3], settled: &str) -> String {
     format!("{lines}\n{NO_REFUSALS}\n{a}\n{b}\n{settled}\n")
 }
 
-/// What differs from W2's octets in a frame of W2, W5, W6 or W7: Oper and Max of the control, SeqNo and
-/// AckNo, and of flow control Oper, Max, flags and mask.
-type Sent = (u8, u8, u8, u8, u8, u8, u8, u8);
-
-fn sent((oper, max, seqno, ackno, flow_oper, flow_max, flags, mask): Sent) -> Vec<u8> {
-    let mut octets = hex(W2);
-    (octets[8], octets[9], octets[13], octets[17]) = (oper, max, seqno, ackno);
-    (octets[39], octets[40], octets[41], octets[43]) = (flow_oper, flow_max, flags, mask);
-    octets
-}
-
-/// The frames of A and B, round by round, as a capture. They must be what two ends in lockstep write.
-fn lockstep(settings: &[OwnedSettings; 2], rounds: &[[Sent; 2]]) -> String {
-    let mut ends = Ends::create(settings);
-    let mut capture = String::new();
-    for (i, round) in rounds.iter().enumerate() {
-        let frames = round.map(sent);
-        for (end, frame) in frames.iter().enumerate() {
-            let written = written_at(&ends.recorder[end], ends.port[end]).unwrap();
-            assert_eq!(&written, frame, "round {}, end {end}", i + 1);
-        }
-        capture += &line('A', &frames[0]);
-        capture += &line('B', &frames[1]);
-        ends.round();
-    }
-    capture
+/// The report of both ends' frames, round by round.
+fn replayed(exchange: &Exchange) -> String {
+    let rounds = exchange.frames();
+    let capture: String = rounds.iter().map(|[a, b]| line('A', a) + &line('B', b)).collect();
+    report(&exchange.settings, &capture)
 }
 
 #[test]
 fn w2() {
-    let settings = w2_ends();
-    let first = (0, 0, 1, 0, 0, 0, 0x80, 0x08);
-    let second = (0, 0, 1, 1, 0, 0, 0x80, 0x08);
-    let capture = lockstep(&settings, &[[first; 2], [second; 2]]);
     let due = expected("2 2 0", [AGREED; 3], [AGREED; 3], "settled 4");
-    assert_eq!(report(&settings, &capture), due);
+    assert_eq!(replayed(&captures::w2()), due);
 }
 
-/// B's first frame runs at 1, and A passes it over; A's third is the one that B waits for.
 #[test]
 fn w5() {
-    let settings = [w2_settings(), OwnedSettings { control_max: 1, ..w2_settings() }];
-    let rounds = [
-        [(0, 0, 1, 0, 0, 0, 0x80, 0x08), (1, 1, 1, 0, 0, 0, 0x80, 0x08)],
-        [(0, 0, 1, 0, 0, 0, 0x80, 0x08), (0, 1, 1, 1, 0, 0, 0x80, 0x08)],
-        [(0, 0, 1, 1, 0, 0, 0x80, 0x08), (0, 1, 1, 1, 0, 0, 0x80, 0x08)],
-    ];
-    let capture = lockstep(&settings, &rounds);
     let due = expected("3 3 0", [AGREED; 3], [AGREED; 3], "settled 5");
-    assert_eq!(report(&settings, &capture), due);
+    assert_eq!(replayed(&captures::w5()), due);
 }
 
-fn masks() -> [OwnedSettings; 2] {
-    let mut b = w2_settings();
-    b.feature[1].1.parameters[0] = 0x10;
-    [w2_settings(), b]
-}
-
-/// The first frame shows another mask, so Error goes on behind SeqNo 1; it waits, and is sent with 2.
 #[test]
 fn w6() {
-    let settings = masks();
-    let rounds = [
-        [(0, 0, 1, 0, 0, 0, 0x80, 0x08), (0, 0, 1, 0, 0, 0, 0x80, 0x10)],
-        [(0, 0, 1, 1, 0, 0, 0x80, 0x08), (0, 0, 1, 1, 0, 0, 0x80, 0x10)],
-        [(0, 0, 2, 1, 0, 0, 0xa0, 0x08), (0, 0, 2, 1, 0, 0, 0xa0, 0x10)],
-        [(0, 0, 2, 2, 0, 0, 0xa0, 0x08), (0, 0, 2, 2, 0, 0, 0xa0, 0x10)],
-    ];
-    let capture = lockstep(&settings, &rounds);
     let features = [AGREED, NOT_COMPATIBLE, AGREED];
     let due = expected("4 4 0", features, features, "settled 8");
-    assert_eq!(report(&settings, &capture), due);
+    assert_eq!(replayed(&captures::w6()), due);
 }
 
-/// A goes down to flow control 0 when it handles B's second frame; until then B waits.
 #[test]
 fn w7() {
-    let mut settings = masks();
-    settings[1].control_max = 1;
-    settings[0].feature[1].0 = 1;
-    let rounds = [
-        [(0, 0, 1, 0, 1, 1, 0x80, 0x08), (1, 1, 1, 0, 0, 0, 0x80, 0x10)],
-        [(0, 0, 1, 0, 1, 1, 0x80, 0x08), (0, 1, 1, 1, 0, 0, 0x80, 0x10)],
-        [(0, 0, 2, 1, 0, 1, 0xa0, 0x08), (0, 1, 1, 1, 0, 0, 0x80, 0x10)],
-        [(0, 0, 2, 1, 0, 1, 0xa0, 0x08), (0, 1, 2, 2, 0, 0, 0xa0, 0x10)],
-        [(0, 0, 2, 2, 0, 1, 0xa0, 0x08), (0, 1, 2, 2, 0, 0, 0xa0, 0x10)],
-    ];
-    let capture = lockstep(&settings, &rounds);
     let waited = "0 0 0 1 0 0 1 0";
     let due =
         expected("5 5 0", [AGREED, NOT_COMPATIBLE, AGREED], [AGREED, waited, AGREED], "settled 9");
-    assert_eq!(report(&settings, &capture), due);
+    assert_eq!(replayed(&captures::w7()), due);
 }
 
-/// Document 02, E5: B's Oper 0 and Error wait for A's third frame, so that A comes to them a round later.
 #[test]
 fn six() {
-    let mut settings = masks();
-    settings[1].control_max = 1;
-    settings[1].feature[1].0 = 1;
-    let rounds = [
-        [(0, 0, 1, 0, 0, 0, 0x80, 0x08), (1, 1, 1, 0, 1, 1, 0x80, 0x10)],
-        [(0, 0, 1, 0, 0, 0, 0x80, 0x08), (0, 1, 1, 1, 1, 1, 0x80, 0x10)],
-        [(0, 0, 1, 1, 0, 0, 0x80, 0x08), (0, 1, 1, 1, 1, 1, 0x80, 0x10)],
-        [(0, 0, 1, 1, 0, 0, 0x80, 0x08), (0, 1, 2, 1, 0, 1, 0xa0, 0x10)],
-        [(0, 0, 2, 2, 0, 0, 0xa0, 0x08), (0, 1, 2, 1, 0, 1, 0xa0, 0x10)],
-        [(0, 0, 2, 2, 0, 0, 0xa0, 0x08), (0, 1, 2, 2, 0, 1, 0xa0, 0x10)],
-    ];
-    let capture = lockstep(&settings, &rounds);
     let waited = "0 0 0 1 0 0 1 0";
     let due =
         expected("6 6 0", [AGREED, waited, AGREED], [AGREED, NOT_COMPATIBLE, AGREED], "settled 12");
-    assert_eq!(report(&settings, &capture), due);
+    assert_eq!(replayed(&captures::six()), due);
 }
 
 /// Applications are absent for the 1.01 end, and never come to be anything at the other.
@@ -192,55 +114,9 @@ fn an_old_end() {
     assert_eq!(report(&settings, &capture), due);
 }
 
-/// Lines that are no frames, each for a reason of its own.
-fn other_lines() -> Vec<Vec<u8>> {
-    let plain = [
-        "",
-        "# a comment",
-        "A",
-        "B",
-        "AB 00",
-        "a 00",
-        "b 00",
-        "C 00",
-        " A 00",
-        "A  00",
-        "A\t00",
-        "A00",
-        "A 0",
-        "A 000",
-        "A 00 ",
-        "A 00 00",
-        "A 00\t",
-        "A 00\r",
-        "A \r",
-        "\r",
-        "A fE",
-        "A FE",
-        "A 0x00",
-        "A 0g",
-        "A g0",
-        "A /0",
-        "A 0:",
-        "A `0",
-        "A 00;",
-        "B 0",
-        "B FE",
-        "control max 0",
-    ];
-    let mut lines: Vec<Vec<u8>> = plain.iter().map(|line| line.as_bytes().to_vec()).collect();
-    lines.extend([&b"A 00\0"[..], b"A \xff\xff", b"\0", b"\xef\xbb\xbfA 00"].map(<[u8]>::to_vec));
-    // One octet and one digit more than a frame may have, and much more.
-    for digits in [2 * 514, 2 * 513 + 1, 1 << 12, 1 << 20] {
-        lines.push([&b"A "[..], &b"0".repeat(digits)].concat());
-        lines.push([&b"B "[..], &b"0".repeat(digits)].concat());
-    }
-    lines
-}
-
 #[test]
 fn every_other_line_is_counted_and_does_nothing_else() {
-    for other in other_lines() {
+    for other in no_frames() {
         let alone = report_of(&w2_ends(), [&other[..], b"\n"]);
         let due = expected("0 0 1", [NONE; 3], [NONE; 3], "not settled");
         assert_eq!(alone, due, "{}", String::from_utf8_lossy(&other));
@@ -288,7 +164,7 @@ fn mixed_capture() -> Vec<u8> {
         (0, 0, 2, 2, 0, 0, 0xa0),
     ];
     let mut capture = Vec::new();
-    let mut others = other_lines().into_iter().filter(|line| line.len() < 1100).cycle();
+    let mut others = no_frames().into_iter().filter(|line| line.len() < 1100).cycle();
     for (oper, max, seqno, ackno, flow_oper, flow_max, flags) in w6 {
         for (sender, mask) in [('A', 0x08), ('B', 0x10)] {
             let frame = sent((oper, max, seqno, ackno, flow_oper, flow_max, flags, mask));
@@ -381,21 +257,6 @@ fn each_feature_is_counted_by_itself() {
         let due = expected("0 8 0", a, [NONE; 3], "not settled");
         assert_eq!(report(&w2_ends(), &capture), due);
     }
-}
-
-/// Frames that are refused with 3 to 8.
-fn refused_frames() -> [Vec<u8>; 6] {
-    let w2 = hex(W2);
-    let mut late = w2.clone();
-    late[7] = 0x0b;
-    [
-        vec![],
-        w2[..56].to_vec(),
-        late,
-        tlv(""),
-        tlv("02 09 00 00 00 00 00 01 00 00 00"),
-        tlv("02 0a 01 00 00 00 00 01 00 00 00 00"),
-    ]
 }
 
 #[test]

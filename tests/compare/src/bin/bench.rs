@@ -7,7 +7,9 @@
 use compare::{engine, programs, script, words};
 use reference::events::{OwnedSetting, OwnedSettings};
 use reference::layout::{self, Found, LONGEST_FRAME};
-use reference::{Recorder, Revision, PORTS};
+use reference::rounds::Ends;
+use reference::text::Text;
+use reference::{Recorder, Revision, Setting, PORTS};
 use std::hint::black_box;
 use std::io::Write;
 use std::path::Path;
@@ -291,6 +293,40 @@ fn replay_input() -> Vec<u8> {
     text
 }
 
+/// What A or B of two ends writes, as a line.
+fn put_written(ends: &Ends, end: usize, text: &mut Text) {
+    let mut octets = [0; LONGEST_FRAME];
+    let length = ends.recorder[end].write(ends.port[end], &mut octets).expect("room");
+    text.put(["A ", "B "][end]).octets(&octets[..length]).put("\n");
+}
+
+/// Sets A's flow control mask, with its line.
+fn put_mask(ends: &mut Ends, mask: u8, text: &mut Text) {
+    let parameters = &[mask, 8];
+    let setting = Setting { advertise: true, enable: true, willing: false, parameters };
+    let changed = ends.recorder[0].change(ends.port[0], layout::FLOW_CONTROL, &setting);
+    changed.expect("a valid setting");
+    text.put("set flow advertise 1 enable 1 willing 0 mask ").octets(&[mask]).put(" classes 8\n");
+}
+
+/// A million lines of A's view: rounds of two ends, and now and then another mask at A, so that Error comes and goes.
+fn conform_input() -> Vec<u8> {
+    let settings = settings(1);
+    let mut ends = Ends::create(&[settings.clone(), settings]);
+    let mut text = Text(SETTINGS.into());
+    for i in 0..LINES {
+        match (i % 64, i % 2) {
+            (63, _) => put_mask(&mut ends, [0x10, 0x08][i / 64 % 2], &mut text),
+            (_, 0) => put_written(&ends, 0, &mut text),
+            _ => {
+                put_written(&ends, 1, &mut text);
+                ends.round();
+            }
+        }
+    }
+    text.0
+}
+
 /// Runs a program over an input, and gives what it wrote.
 fn run(program: &Path, input: &Path) -> Vec<u8> {
     let output = Command::new(program)
@@ -335,6 +371,7 @@ fn main() {
         let [engine, reference] = nanoseconds.map(|nanoseconds| 1e9 / nanoseconds);
         println!("replay, frames a second: {engine:.0} and {reference:.0}");
     }
+    program("conform", "a line", conform_input);
     println!();
     heading("four ports", "alone");
     ports();

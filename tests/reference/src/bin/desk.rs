@@ -1,15 +1,16 @@
 //! A recorder at a desk: settings of its ports, then events, each answered (docs/FORMATS.md).
 
 use reference::capture::{self, Sender};
+use reference::change::Change;
 use reference::program::{self, Source};
 use reference::setup::{self, Failure, PortSettings};
-use reference::text::{self, InWords, Lines, Text};
+use reference::show;
+use reference::text::{Lines, Text};
 use reference::why::{why, Why};
-use reference::words::{self, By, Due, Line, Switches, Unread, Words};
-use reference::{refusal, Feature, Flag, Log, Port, Recorder, Refusal, Revision, Setting};
+use reference::words::{self, Due, Line, Unread};
+use reference::{refusal, Recorder, Refusal};
 
-/// The most octets of parameters and of an output that a line names.
-const PARAMETERS: usize = 507;
+/// The most octets of an output that a line names.
 const ROOM: usize = 1000;
 
 const USAGE: &str = "\
@@ -22,8 +23,8 @@ standard input; without it both are read from standard input.
 In the answer to show, syncd 1 of an advertised feature means that the other end
 has handled a frame with its present sub-TLV since that last changed, provided
 that both ends were fresh together, run with one neighbour, were not restarted
-or told since that the peer is gone, and take no frames but each other's, none
-after its sender has written a later one.
+or told since that the peer is gone, and take no frames but each other's, all
+written since then and none after its sender has written a later one.
 
 Example:
 control max 0
@@ -98,19 +99,10 @@ impl Desk {
                 words.next_word();
                 return Err(words.unread(Due::Frame));
             }
-            Some(b"set") => return self.set(words, out),
-            Some(b"admin") => self.flag(Flag::Enabled, words, out)?,
-            Some(b"receive") => self.flag(Flag::Receive, words, out)?,
-            Some(b"transmit") => self.flag(Flag::Transmit, words, out)?,
-            Some(b"several") => self.flag(Flag::SeveralNeighbours, words, out)?,
             Some(b"write") => {
                 let room = words.number(ROOM as u32)?;
                 words.end()?;
                 self.write(room as usize, out);
-            }
-            Some(b"gone") => {
-                words.end()?;
-                self.event(out, |recorder, port, _| recorder.peer_gone(port));
             }
             Some(b"take") => {
                 words.end()?;
@@ -120,38 +112,10 @@ impl Desk {
                 words.end()?;
                 self.show(out);
             }
-            _ => return Err(words.unread(Due::Event)),
-        }
-        Ok(())
-    }
-
-    fn flag(&mut self, flag: Flag, mut words: Words, out: &mut Text) -> Result<(), Unread> {
-        let on = words.bit()?;
-        words.end()?;
-        self.event(out, |recorder, port, _| recorder.set_flag(port, flag, on));
-        Ok(())
-    }
-
-    /// A setting change, in words or by number.
-    fn set(&mut self, mut words: Words, out: &mut Text) -> Result<(), Unread> {
-        match words.feature()? {
-            By::Name(feature) => {
-                let setting = words.setting(feature)?;
+            _ => {
+                let change = Change::read(line.words())?;
                 self.event(out, |recorder, port, _| {
-                    change(recorder, port, feature, &setting.lend())
-                });
-            }
-            By::Number(feature) => {
-                let Switches { advertise, enable, willing } = words.switches()?;
-                self.octets.clear();
-                if !words.is_empty() {
-                    words.word("parameters")?;
-                    words.octets(PARAMETERS, &mut self.octets)?;
-                    words.end()?;
-                }
-                self.event(out, |recorder, port, parameters| {
-                    let setting = Setting { advertise, enable, willing, parameters };
-                    change(recorder, port, feature, &setting)
+                    change.make(recorder, port).map_err(|number| refused(number, &change))
                 });
             }
         }
@@ -188,9 +152,14 @@ impl Desk {
 
     fn show(&self, out: &mut Text) {
         match self.recorder.port(self.port) {
-            Ok(port) => show(self.port, port, self.recorder.log(), out),
-            Err(number) => out.refused(number).put("\n"),
-        };
+            Ok(port) => {
+                show::port(port, out);
+                show::log(self.port, self.recorder.log(), out);
+            }
+            Err(number) => {
+                out.refused(number).put("\n");
+            }
+        }
     }
 
     fn write(&self, room: usize, out: &mut Text) {
@@ -232,80 +201,15 @@ impl Refused {
     }
 }
 
-/// Changes a setting; refusal 9 with the reason.
-fn change(
-    recorder: &mut Recorder,
-    port: u8,
-    feature: u8,
-    setting: &Setting,
-) -> Result<bool, Refused> {
-    recorder.change(port, feature, setting).map_err(|number| {
-        let invalid = number == refusal::INVALID_SETTING;
-        let why = invalid.then(|| why(feature, setting.parameters)).flatten();
-        Refused { refusal: number.into(), why }
-    })
-}
-
-fn show_feature<P: InWords>(feature: &Feature<P>, out: &mut Text) {
-    let name = text::place_name(P::FEATURE);
-    out.settings_line(feature).put("\n");
-    out.put(name).put(" state").field("oper", feature.oper);
-    out.field("error", feature.error).field("mode", feature.mode);
-    out.field("syncd", feature.syncd);
-    out.field("featureseqno", feature.featureseqno);
-    out.put(" reason ").put(text::reason_name(feature.reason));
-    out.put("\n").put(name).put(" peer");
-    match &feature.peer {
-        None => out.put(" none\n"),
-        Some(peer) => {
-            out.field("enable", peer.enable);
-            out.field("willing", peer.willing);
-            out.field("error", peer.error);
-            out.configuration(&peer.parameters).put("\n")
+/// A refused change; with refusal 9, why.
+fn refused(number: u8, change: &Change) -> Refused {
+    let why = match change {
+        Change::Setting(feature, setting) if number == refusal::INVALID_SETTING => {
+            why(*feature, &setting.parameters)
         }
+        _ => None,
     };
-    out.put(name).put(" opercfg").configuration(&feature.opercfg).put("\n");
-    if feature.waits() {
-        out.put(name).put(" waits released");
-        match &feature.released {
-            None => out.put(" none\n"),
-            Some(released) => {
-                out.field("oper", released.oper);
-                out.field("enable", released.enable);
-                out.field("willing", released.willing);
-                out.field("error", released.error);
-                out.configuration(&released.parameters).put("\n")
-            }
-        };
-    }
-}
-
-fn show<'a>(number: u8, port: &Port, log: &Log, out: &'a mut Text) -> &'a mut Text {
-    let (flags, control) = (port.flags(), port.control());
-    out.put("port").field("running", port.running());
-    out.field("admin", flags.enabled);
-    out.field("receive", flags.receive);
-    out.field("transmit", flags.transmit);
-    out.field("several", flags.several_neighbours);
-    out.put("\n").control_line(port);
-    out.put("\ncontrol state").field("oper", control.oper);
-    out.field("seqno", control.seqno);
-    out.field("ackno", control.ackno);
-    out.field("rcvdackno", control.rcvdackno);
-    out.field("seen", control.peer_seen);
-    out.field("duplicate", control.duplicate_control);
-    out.field("broken", control.broken_control).put("\n");
-    show_feature(port.groups(), out);
-    show_feature(port.flow(), out);
-    if port.revision() == Revision::R1_01 {
-        show_feature(port.applications(), out);
-    }
-    out.put("log").field("held", log.held(number) as u32);
-    out.field("dropped", log.dropped(number)).put("\n");
-    for notice in log.of(number) {
-        out.notice(notice);
-    }
-    out
+    Refused { refusal: number.into(), why }
 }
 
 fn run(source: Source) -> Result<(), Failure> {

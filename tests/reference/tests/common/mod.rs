@@ -1,6 +1,8 @@
 //! Helpers that the tests share.
 #![allow(dead_code)]
 
+pub mod captures;
+
 use reference::events::{assemble, Answer, Call, Event, OwnedSetting, OwnedSettings, FILL};
 use reference::layout::LONGEST_FRAME;
 use reference::rounds::Ends;
