@@ -45,13 +45,6 @@ pub fn answered(out: &mut [u8], at: usize, w: PortWord, e: Event) -> usize {
     report::ports::others(out, at, end, w.given, w.number)
 }
 
-// Handles the frame on a line at port `n`, which is `p`.
-pub fn handle(n: u8, p: Port, line: &[u8]) -> Event {
-    let k = script::frame_length(line);
-    let o = script::frame_octets(line);
-    recorder::handle(n, p, octets::first(&o, k))
-}
-
 fn port_flag(f: script::Flag) -> Flag {
     match f {
         script::Flag::Admin => Flag::Admin,

@@ -68,8 +68,9 @@ fn next(input: &mut [u8], output: &[u8], l: Lines, at: usize) -> Place {
 }
 
 // The events, to the end of the input; what stands in the output before `behind` is written out first. The recorder stays where
-// it is: of an event only the port at hand moves, and the log. A frame, as most lines are, goes its own way, on which the log
-// moves only where a notice was raised. A proved loop ends: it counts its turns down, from a number that no run uses up.
+// it is: of an event only the port at hand moves, and the log. A frame, as most lines are, goes its own way: where it repeats what
+// is held of the peer the control alone moves, and the log moves only where a notice was raised. A proved loop ends: it counts its
+// turns down, from a number that no run uses up.
 fn run(input: &mut [u8], output: &mut [u8], start: Recorder, first: Lines, behind: usize) {
     let mut held = start;
     let mut lines = first;
@@ -88,7 +89,23 @@ fn run(input: &mut [u8], output: &mut [u8], start: Recorder, first: Lines, behin
         let from = report::ports::first(output, p.at, w.given, w.number);
         let i = recorder::place_of(w.number);
         if script::is_frame(said) {
-            let e = answers::handle(w.number, held.ports[i], said);
+            let o = script::frame_octets(said);
+            let frame = octets::first(&o, script::frame_length(said));
+            let k = repeating::repeat(w.number, held.ports[i], frame);
+            if k.holds {
+                let c = k.control;
+                held.ports[i].control.max = c.max;
+                held.ports[i].control.oper = c.oper;
+                held.ports[i].control.seq = c.seq;
+                held.ports[i].control.ack = c.ack;
+                held.ports[i].control.rcvd = c.rcvd;
+                held.ports[i].control.seen = c.seen;
+                held.ports[i].control.duplicate = c.duplicate;
+                held.ports[i].control.broken = c.broken;
+                at = report::answers::done(output, from, k.wish, 0);
+                continue;
+            }
+            let e = recorder::handle(w.number, held.ports[i], frame);
             let port = e.port;
             held.ports[i] = port;
             if !recorder::is_silent(e.notices) {

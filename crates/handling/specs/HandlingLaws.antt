@@ -102,13 +102,13 @@ handled-admitted p o = by (running p) (p .several)
 pub part-is : (o : List ℕ) (x : Found) → take (x .start + x .length - x .start) (drop (x .start) o) ≡ valueOf o x
 part-is o x = rw add-sub-cancel-left refl
 
-abbrev courseOf : List ℕ → Contents → Control → Course
+abbrev pub courseOf : List ℕ → Contents → Control → Course
 courseOf o c k =
     if 1 below c .control .count then Twice
     else if message o c .oper is lower (k .max) (message o c .max) then Exchange
     else OtherVersion
 
-abbrev controlBy : Course → Message → Control → Control
+abbrev pub controlBy : Course → Message → Control → Control
 controlBy Twice m k = seenTwice k
 controlBy OtherVersion m k = met (lower (k .max) (m .max)) k
 controlBy Exchange m k = numbered (lower (k .max) (m .max)) m k
@@ -184,26 +184,26 @@ reject-is why place p eb ex = rw (ex, eb) refl
 -- ---- the port
 
 -- what is released behind it
-abbrev releasedBy : Released → Bool → State → State → State → Released
+abbrev pub releasedBy : Released → Bool → State → State → State → Released
 releasedBy r up g w a = if up then presents g w a else r
 
 -- the port after a frame, by the way that the frame takes
 module _ (o : List ℕ) (c : Contents) (p : Port) where
-  abbrev stateBy : Heard → Feature → State
+  abbrev pub stateBy : Heard → Feature → State
   stateBy h f = after (h .course) f (hasOf o c f) (h .control .rcvd) (p .control .seq) (featureOf p f)
 
-  abbrev upBy : Heard → Bool
+  abbrev pub upBy : Heard → Bool
   upBy h = some (λ f. unacknowledged (stateBy h f)) && h .control .rcvd is h .control .seq
 
-  abbrev controlAfter : Heard → Control
+  abbrev pub controlAfter : Heard → Control
   controlAfter h = counted (upBy h) (h .control)
 
-  abbrev portBy : Heard → Port
+  abbrev pub portBy : Heard → Port
   portBy h =
       withReleased (withFeatures (withControl p (controlAfter h)) (stateBy h))
       (releasedBy (p .released) (upBy h) (stateBy h Groups) (stateBy h Flow) (stateBy h Applications))
 
-completed-by : (o : List ℕ) (c : Contents) (p : Port) → completed p (steps1to4 o c p) ≡ portBy o c p (heardOf o c (p .control))
+pub completed-by : (o : List ℕ) (c : Contents) (p : Port) → completed p (steps1to4 o c p) ≡ portBy o c p (heardOf o c (p .control))
 unfolding steps1to4 once twice exchanged heardOf
 completed-by o c p = by (1 below c .control .count) (message o c .oper is lower (p .control .max) (message o c .max)) refl refl
   where

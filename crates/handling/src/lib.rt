@@ -56,8 +56,8 @@ pub fn admit(p: Port, s: &[u8]) -> Reading
     tlv::read_for(revision, s)
 }
 
-// A sub-TLV's value, as a part of the frame.
-fn part(s: &[u8], found: Found) -> &[u8]
+// A sub-TLV's value, as a part of the frame. Here and in `hear` the `requires` is what `admit` ensures of a frame that is accepted.
+pub fn part(s: &[u8], found: Found) -> &[u8]
     requires { ⌜ found .start + found .length ≤ length (now s) ⌝ }
     ensures { λ r. ⌜ now r ≡ valueOf (now (s .entry)) found ⌝ }
 {
@@ -67,12 +67,12 @@ fn part(s: &[u8], found: Found) -> &[u8]
 }
 
 // The way that the frame takes, and the control after steps 1 to 3.
-struct Heard {
-    course: Course,
-    control: Control,
+pub struct Heard {
+    pub course: Course,
+    pub control: Control,
 }
 
-fn hear(s: &[u8], c: Contents, k: Control) -> Heard
+pub fn hear(s: &[u8], c: Contents, k: Control) -> Heard
     requires { ⌜ Inside (now s) c ⌝ }
     ensures { λ r. ⌜ r ≡ heardOf (now (s .entry)) c k ⌝ }
 {

@@ -8,7 +8,7 @@ use mathlib.Core.Bool.{Bool, true, false, _&&_}
 use mathlib.Core.List.{List, [], _∷_, _++_}
 use lib.ListN.{length, length-set, length-drop, set, take, drop, List·getD-eq-default, drop-of-length-le}
 use lib.Seq.{drop-cons, drop-length, sets, length-take-le, take-suc, take-all, take-nil}
-use borrow.Author.Tests.{eq-eqb, ne-eqb, eqb-true}
+use borrow.Author.Tests.{eq-eqb, eqb-true}
 use Rattle.octets.specs.Words.{_is_}
 use Rattle.octets.specs.Octets.{at, same}
 
@@ -53,29 +53,41 @@ unlike (x ∷ a) [] n = refl
 unlike (x ∷ a) (y ∷ b) n =
     elim (x is y) as (λ t. false ≡ (t && same a b)) [ true ↦ unlike a b (λ e. n (ap suc e)) | false ↦ refl ]
 
--- the first i are the same: what is left decides
-pub record Alike (a b : List ℕ) (i : ℕ) : Type 0 where
+-- whether the first i are alike, and what is left decide
+pub record Alike (a b : List ℕ) (alike : Bool) (i : ℕ) : Type 0 where
   pub long : length a ≡ length b
   pub below : i ≤ length a
-  pub left : same (drop i a) (drop i b) ≡ same a b
+  pub left : (alike && same (drop i a) (drop i b)) ≡ same a b
 
-pub alike-start : {a b : List ℕ} → length a ≡ length b → Alike a b 0
+pub alike-start : {a b : List ℕ} → length a ≡ length b → Alike a b true 0
 alike-start l = record { long = l; below = omega arith; left = refl }
 
-alike-here : {a b : List ℕ} {i : ℕ} → Alike a b i → i < length a → (at a i is at b i && same (drop (i + 1) a) (drop (i + 1) b)) ≡ same a b
-unfolding same
-alike-here {a} {b} {i} p h = let k : i < length b = omega arith in rw add-one (rw (drop-cons a i 0 h, drop-cons b i 0 k) at (p .left))
+and-three : (a b c : Bool) → (a && b && c) ≡ (a && (b && c))
+and-three true b c = refl
+and-three false b c = refl
 
-module _ {a b : List ℕ} {i : ℕ} where
-  pub alike-more : Alike a b i → i < length a → at a i ≡ at b i → Alike a b (i + 1)
-  alike-more p h e = record { long = p .long; below = omega arith; left = rw (eq-eqb (at a i) (at b i) e) at (alike-here p h) }
+and-nothing : (a : Bool) → (a && true) ≡ a
+and-nothing true = refl
+and-nothing false = refl
 
-  pub alike-not : Alike a b i → i < length a → (at a i ≡ at b i → ⊥) → false ≡ same a b
-  alike-not p h n = rw (ne-eqb (at a i) (at b i) n) at (alike-here p h)
-
-  pub alike-end : Alike a b i → length a ≤ i → true ≡ same a b
+module _ {a b : List ℕ} {alike : Bool} {i : ℕ} where
+  pub alike-more : Alike a b alike i → i < length a → Alike a b (alike && at a i is at b i) (i + 1)
   unfolding same
-  alike-end p h = let k : length b ≤ i = omega arith in rw (drop-of-length-le a h, drop-of-length-le b k) at (p .left)
+  alike-more p h =
+      let k : i < length b = omega (arith, p .long) in
+      record {
+        long = p .long;
+        below = omega arith;
+        left =
+            and-three alike (at a i is at b i) (same (drop (i + 1) a) (drop (i + 1) b))
+            ∙ rw add-one (rw (drop-cons a i 0 h, drop-cons b i 0 k) at (p .left));
+      }
+
+  pub alike-end : Alike a b alike i → length a ≤ i → alike ≡ same a b
+  unfolding same
+  alike-end p h =
+      let k : length b ≤ i = omega (arith, p .long) in
+      sym (and-nothing alike) ∙ (rw (drop-of-length-le a h, drop-of-length-le b k) at (p .left))
 
 -- ---- runs of stores
 

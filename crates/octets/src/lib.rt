@@ -23,21 +23,20 @@ pub fn wide(x: u8) -> usize
     x as usize
 }
 
-// Whether two runs of octets are the same.
+// Whether two runs of octets are the same. All are looked at, so that many are compared at a time.
 pub fn same_octets(a: &[u8], b: &[u8]) -> bool
     ensures { λ r. ⌜ r ≡ same (now (a .entry)) (now (b .entry)) ⌝ }
 {
     if a.len() != b.len() {
         return false;
     }
+    let mut alike = true;
     let mut i: usize = 0;
     while i < a.len() {
-        if a[i] != b[i] {
-            return false;
-        }
+        alike = alike & (a[i] == b[i]);
         i += 1;
     }
-    true
+    alike
 }
 
 // The first `n` octets, or all where there are fewer.

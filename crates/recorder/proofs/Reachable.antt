@@ -41,7 +41,7 @@ versions-small v k Applications = by (hasApplications (v .revision))
     by true = k Applications
     by false = lit< tt
 
-event-stands : (n : ℕ) (p : Port) (x : Operation) → InRange x → Standing p → Standing (eventOf n p x .port)
+pub event-stands : (n : ℕ) (p : Port) (x : Operation) → InRange x → Standing p → Standing (eventOf n p x .port)
 unfolding eventOf changed happens created events.created events.createdWith
 event-stands n p (create v w o) k h = by (isPort n) (settingsValid (parametersFor (v .revision) o)) refl
   where
@@ -89,7 +89,7 @@ stands-by n p (x ∷ xs) r four k h = stands-by n p xs (after r x) (four-after r
         rw (e, own-after r four n (x .operation)) (event-stands n (portAt r n) (x .operation) (k .0) h)
     by false t = rw (other-after r (x .port) n p (eqb-false (x .port) n t) (x .operation)) h
 
-nowhere : (n : ℕ) → isPort n ≡ false → placeOf n ≡ placeOf 1
+pub nowhere : (n : ℕ) → isPort n ≡ false → placeOf n ≡ placeOf 1
 unfolding placeOf
 nowhere n e = rw e refl
 

@@ -121,7 +121,25 @@ pub extern "C" fn trial_handle_many(
     let mut left = times;
     while 0 < left {
         let i = recorder::place_of(n);
-        let e = recorder::handle(n, held.ports[i], frame_at(frames, at, size));
+        let frame = frame_at(frames, at, size);
+        at = place_behind(frames.len(), at, size);
+        left -= 1;
+        let k = repeating::repeat(n, held.ports[i], frame);
+        if k.holds {
+            let c = k.control;
+            held.ports[i].control.max = c.max;
+            held.ports[i].control.oper = c.oper;
+            held.ports[i].control.seq = c.seq;
+            held.ports[i].control.ack = c.ack;
+            held.ports[i].control.rcvd = c.rcvd;
+            held.ports[i].control.seen = c.seen;
+            held.ports[i].control.duplicate = c.duplicate;
+            held.ports[i].control.broken = c.broken;
+            sum = std::num::wrapping_add_u64(sum, k.wish as u64);
+            n = port_behind(n);
+            continue;
+        }
+        let e = recorder::handle(n, held.ports[i], frame);
         let port = e.port;
         held.ports[i] = port;
         if !recorder::is_silent(e.notices) {
@@ -129,9 +147,7 @@ pub extern "C" fn trial_handle_many(
             held.log = log;
         }
         sum = std::num::wrapping_add_u64(sum, told(e));
-        at = place_behind(frames.len(), at, size);
         n = port_behind(n);
-        left -= 1;
     }
     sum
 }
@@ -149,14 +165,29 @@ pub extern "C" fn trial_handle_alone(
     let mut at: usize = 0;
     let mut left = times;
     while 0 < left {
-        let e = recorder::handle(1, port, frame_at(frames, at, size));
+        let frame = frame_at(frames, at, size);
+        at = place_behind(frames.len(), at, size);
+        left -= 1;
+        let k = repeating::repeat(1, port, frame);
+        if k.holds {
+            let c = k.control;
+            port.control.max = c.max;
+            port.control.oper = c.oper;
+            port.control.seq = c.seq;
+            port.control.ack = c.ack;
+            port.control.rcvd = c.rcvd;
+            port.control.seen = c.seen;
+            port.control.duplicate = c.duplicate;
+            port.control.broken = c.broken;
+            sum = std::num::wrapping_add_u64(sum, k.wish as u64);
+            continue;
+        }
+        let e = recorder::handle(1, port, frame);
         port = e.port;
         if !recorder::is_silent(e.notices) {
             log = recorder::keep(log, 1, e.notices);
         }
         sum = std::num::wrapping_add_u64(sum, told(e));
-        at = place_behind(frames.len(), at, size);
-        left -= 1;
     }
     sum
 }

@@ -10,12 +10,14 @@ use port::Event;
 use port::Flag;
 use port::Notices;
 use port::Port;
+use port::Raised;
 use port::Versions;
 use port::Written;
 use recorder::Change;
 use recorder::Recorder;
 use recorder::Taken;
 use recorder::Took;
+use repeating::Repetition;
 use tlv::Refusal;
 use tlv::Revision;
 
@@ -101,13 +103,10 @@ fn flag(number: u8) -> Flag {
     }
 }
 
-// A frame, a peer that is gone, a flag or a setting change.
+// A peer that is gone, a flag or a setting change.
 fn change_of(kind: u8, body: &[u8]) -> Change {
     let first = octets::octet(body, 0);
     let second = octets::octet(body, 1);
-    if kind == 1 {
-        return Change::Frame;
-    }
     if kind == 2 {
         return Change::PeerGone;
     }
@@ -115,14 +114,6 @@ fn change_of(kind: u8, body: &[u8]) -> Change {
         return Change::Flag(flag(first), second == 1);
     }
     Change::Setting(first, switches(second))
-}
-
-// The octets of a frame, or the parameters of a setting.
-fn octets_of(kind: u8, body: &[u8]) -> &[u8] {
-    if kind == 4 {
-        return octets::from(body, 2);
-    }
-    body
 }
 
 // ---- what is told
@@ -246,12 +237,41 @@ pub fn create(n: u8, p: Port, body: &[u8]) -> Event {
     )
 }
 
-// A creation, or what may happen at a port.
+// What a frame does that repeats what is held of the peer (repeating/proofs/Reachable: `reachable-repeats`).
+fn repeated(p: Port, k: Repetition) -> Event {
+    let control = k.control;
+    let mut next = p;
+    next.control = control;
+    Event {
+        answer: Answer::Done(k.wish),
+        port: next,
+        notices: Notices {
+            port: Raised::Nothing,
+            groups: Raised::Nothing,
+            flow: Raised::Nothing,
+            applications: Raised::Nothing,
+        },
+    }
+}
+
+// A frame. Where it repeats what is held it takes that way, so that the comparison runs over both.
+fn frame(n: u8, p: Port, body: &[u8]) -> Event {
+    let k = repeating::repeat(n, p, body);
+    if k.holds {
+        return repeated(p, k);
+    }
+    recorder::apply(n, p, Change::Frame, body)
+}
+
+// A creation, or what may happen at a port; only a setting change has octets beside it.
 fn happen(n: u8, p: Port, kind: u8, body: &[u8]) -> Event {
     if kind == 0 {
         return create(n, p, body);
     }
-    recorder::apply(n, p, change_of(kind, body), octets_of(kind, body))
+    if kind == 1 {
+        return frame(n, p, body);
+    }
+    recorder::apply(n, p, change_of(kind, body), octets::from(body, 2))
 }
 
 fn given_event(n: u8, l: Log, e: Event) -> Given {

@@ -47,6 +47,84 @@ place-of-requires c κs = search needs
 is-frame-requires : tie.Need-is-frame-requires Inv-loop μ-loop
 is-frame-requires c κs = search needs
 
+frame-octets-requires : tie.Need-frame-octets-requires Inv-loop μ-loop
+frame-octets-requires c κs = search needs
+
+slice-aggregate-first : tie.Need-slice-aggregate-first Inv-loop μ-loop
+slice-aggregate-first c = search needs
+
+frame-length-requires : tie.Need-frame-length-requires Inv-loop μ-loop
+frame-length-requires c κs = search needs
+
+first-requires-2 : tie.Need-first-requires-2 Inv-loop μ-loop
+first-requires-2 c κs = search needs
+
+mul-repeat : tie.Need-mul-repeat Inv-loop μ-loop
+mul-repeat c = search needs
+
+element-copy-out-repeat : tie.Need-element-copy-out-repeat Inv-loop μ-loop
+element-copy-out-repeat c = search needs
+
+repeat-requires : tie.Need-repeat-requires Inv-loop μ-loop
+repeat-requires c κs = search needs
+
+mul-held : tie.Need-mul-held Inv-loop μ-loop
+mul-held c = search needs
+
+way-write-given-held : tie.Need-way-write-given-held Inv-loop μ-loop
+way-write-given-held c = search needs
+
+mul-held-2 : tie.Need-mul-held-2 Inv-loop μ-loop
+mul-held-2 c = search needs
+
+way-write-given-held-2 : tie.Need-way-write-given-held-2 Inv-loop μ-loop
+way-write-given-held-2 c = search needs
+
+mul-held-3 : tie.Need-mul-held-3 Inv-loop μ-loop
+mul-held-3 c = search needs
+
+way-write-given-held-3 : tie.Need-way-write-given-held-3 Inv-loop μ-loop
+way-write-given-held-3 c = search needs
+
+mul-held-4 : tie.Need-mul-held-4 Inv-loop μ-loop
+mul-held-4 c = search needs
+
+way-write-given-held-4 : tie.Need-way-write-given-held-4 Inv-loop μ-loop
+way-write-given-held-4 c = search needs
+
+mul-held-5 : tie.Need-mul-held-5 Inv-loop μ-loop
+mul-held-5 c = search needs
+
+way-write-given-held-5 : tie.Need-way-write-given-held-5 Inv-loop μ-loop
+way-write-given-held-5 c = search needs
+
+mul-held-6 : tie.Need-mul-held-6 Inv-loop μ-loop
+mul-held-6 c = search needs
+
+way-write-given-held-6 : tie.Need-way-write-given-held-6 Inv-loop μ-loop
+way-write-given-held-6 c = search needs
+
+mul-held-7 : tie.Need-mul-held-7 Inv-loop μ-loop
+mul-held-7 c = search needs
+
+way-write-given-held-7 : tie.Need-way-write-given-held-7 Inv-loop μ-loop
+way-write-given-held-7 c = search needs
+
+mul-held-8 : tie.Need-mul-held-8 Inv-loop μ-loop
+mul-held-8 c = search needs
+
+way-write-given-held-8 : tie.Need-way-write-given-held-8 Inv-loop μ-loop
+way-write-given-held-8 c = search needs
+
+done-requires : tie.Need-done-requires Inv-loop μ-loop
+done-requires c κs = search needs
+
+loop-less : tie.Need-loop-less Inv-loop μ-loop
+loop-less c = search (needs, c .before .before .before .before .before .before .before .before .before .before .before .before .before .before .before .before .before .before .before .before .before .before .before .before .before .before .before .before .before .before .before .before .before .before .before .before .before .before .before)
+
+loop-again : tie.Need-loop-again Inv-loop μ-loop
+loop-again c = search (needs, c .before .before .before .before .before .before .before .before .before .before .before .before .before .before .before .before .before .before .before .before .before .before .before .before, c .before .before .before .before .before .before .before .before .before .before .before .before .before .before .before .before .before .before .before .before .before .before .before .before .before .before .before .before .before .before .before .before .before .before .before, c .before .before .before .before .before .before .before .before .before .before .before .before .before .before .before .before .before .before .before .before .before .before .before .before .before .before .before .before .before .before .before .before .before .before .before .before .before .before .before .before)
+
 mul-handle : tie.Need-mul-handle Inv-loop μ-loop
 mul-handle c = search needs
 
@@ -57,10 +135,10 @@ handle-requires : tie.Need-handle-requires Inv-loop μ-loop
 handle-requires c κs = search needs
 
 mul-port : tie.Need-mul-port Inv-loop μ-loop
-mul-port c = search needs
+mul-port c = search (needs, c .before .before .before .before .before .before .before .before .before .before .before .before)
 
 element-set-from-port : tie.Need-element-set-from-port Inv-loop μ-loop
-element-set-from-port c = search needs
+element-set-from-port c = search (needs, c .before .before .before .before .before .before .before .before .before .before .before .before)
 
 is-silent-requires : tie.Need-is-silent-requires Inv-loop μ-loop
 is-silent-requires c κs = search needs
@@ -71,11 +149,11 @@ keep-requires c κs = search needs
 answered-requires : tie.Need-answered-requires Inv-loop μ-loop
 answered-requires c κs = search needs
 
-loop-less : tie.Need-loop-less Inv-loop μ-loop
-loop-less c = search (needs, c .before .before .before .before .before .before .before .before .before .before .before .before .before .before .before .before .before .before .before .before .before .before .before .before .before .before .before .before)
+loop-less-2 : tie.Need-loop-less-2 Inv-loop μ-loop
+loop-less-2 c = search (needs, c .before .before .before .before .before .before .before .before .before .before .before .before .before .before .before .before .before .before .before .before .before .before .before .before .before .before .before .before .before .before .before .before .before .before .before)
 
-loop-again : tie.Need-loop-again Inv-loop μ-loop
-loop-again c = search (needs, c .before .before .before .before .before .before .before .before .before .before .before .before .before, c .before .before .before .before .before .before .before .before .before .before .before .before .before .before .before .before .before .before .before .before .before .before .before .before, c .before .before .before .before .before .before .before .before .before .before .before .before .before .before .before .before .before .before .before .before .before .before .before .before .before .before .before .before .before)
+loop-again-2 : tie.Need-loop-again-2 Inv-loop μ-loop
+loop-again-2 c = search (needs, c .before .before .before .before .before .before .before .before .before .before .before .before .before .before .before .before .before .before .before .before, c .before .before .before .before .before .before .before .before .before .before .before .before .before .before .before .before .before .before .before .before .before .before .before .before .before .before .before .before .before .before .before, c .before .before .before .before .before .before .before .before .before .before .before .before .before .before .before .before .before .before .before .before .before .before .before .before .before .before .before .before .before .before .before .before .before .before .before .before)
 
 mul-event : tie.Need-mul-event Inv-loop μ-loop
 mul-event c = search needs
@@ -92,11 +170,11 @@ mul-port-2 c = search needs
 element-set-from-port-2 : tie.Need-element-set-from-port-2 Inv-loop μ-loop
 element-set-from-port-2 c = search needs
 
-loop-less-2 : tie.Need-loop-less-2 Inv-loop μ-loop
-loop-less-2 c = search (needs, c .before .before .before .before .before .before .before .before .before .before .before .before .before .before .before .before .before .before .before .before .before .before .before .before .before .before .before)
+loop-less-3 : tie.Need-loop-less-3 Inv-loop μ-loop
+loop-less-3 c = search (needs, c .before .before .before .before .before .before .before .before .before .before .before .before .before .before .before .before .before .before .before .before .before .before .before .before .before .before .before)
 
-loop-again-2 : tie.Need-loop-again-2 Inv-loop μ-loop
-loop-again-2 c = search (needs, c .before .before .before .before .before .before .before .before .before .before .before .before, c .before .before .before .before .before .before .before .before .before .before .before .before .before .before .before .before .before .before .before .before .before .before .before, c .before .before .before .before .before .before .before .before .before .before .before .before .before .before .before .before .before .before .before .before .before .before .before .before .before .before .before .before)
+loop-again-3 : tie.Need-loop-again-3 Inv-loop μ-loop
+loop-again-3 c = search (needs, c .before .before .before .before .before .before .before .before .before .before .before .before, c .before .before .before .before .before .before .before .before .before .before .before .before .before .before .before .before .before .before .before .before .before .before .before, c .before .before .before .before .before .before .before .before .before .before .before .before .before .before .before .before .before .before .before .before .before .before .before .before .before .before .before .before)
 
 same-length-3 : tie.Need-same-length-3 Inv-loop μ-loop
 same-length-3 c = search needs
@@ -125,6 +203,32 @@ run-spec =
     first-requires
     place-of-requires
     is-frame-requires
+    frame-octets-requires
+    slice-aggregate-first
+    frame-length-requires
+    first-requires-2
+    mul-repeat
+    element-copy-out-repeat
+    repeat-requires
+    mul-held
+    way-write-given-held
+    mul-held-2
+    way-write-given-held-2
+    mul-held-3
+    way-write-given-held-3
+    mul-held-4
+    way-write-given-held-4
+    mul-held-5
+    way-write-given-held-5
+    mul-held-6
+    way-write-given-held-6
+    mul-held-7
+    way-write-given-held-7
+    mul-held-8
+    way-write-given-held-8
+    done-requires
+    loop-less
+    loop-again
     mul-handle
     element-copy-out-handle
     handle-requires
@@ -133,15 +237,15 @@ run-spec =
     is-silent-requires
     keep-requires
     answered-requires
-    loop-less
-    loop-again
+    loop-less-2
+    loop-again-2
     mul-event
     element-copy-out-event
     event-requires
     mul-port-2
     element-set-from-port-2
-    loop-less-2
-    loop-again-2
+    loop-less-3
+    loop-again-3
     same-length-3
     same-length-4
     returns-2)

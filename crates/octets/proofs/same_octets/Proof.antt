@@ -3,15 +3,15 @@ use Prim.Native.Nat.{_-_}
 use lib.ListN.{length}
 use borrow.Author.Needs.{needs}
 use native.Mathlib.Omega.{arith}
-use Rattle.octets.specs.Laws.{Alike, alike-start, alike-more, alike-not, alike-end, unlike}
+use Rattle.octets.specs.Laws.{Alike, alike-start, alike-more, alike-end, unlike}
 use Rattle.octets.proofs.same_octets.Statement.{statement}
 use Rattle.octets.proofs.same_octets.Tie as tie
 
 abbrev Inv-loop : tie.InvT-loop
-Inv-loop a b i₀ i = Alike a b i
+Inv-loop a b alike₀ i₀ alike i = Alike a b alike i
 
 abbrev μ-loop : tie.MeasureT-loop
-μ-loop a b i₀ i = length a - i
+μ-loop a b alike₀ i₀ alike i = length a - i
 
 returns : tie.Need-returns Inv-loop μ-loop
 returns c = search unlike
@@ -19,14 +19,11 @@ returns c = search unlike
 loop-holds : tie.Need-loop-holds Inv-loop μ-loop
 loop-holds c = search alike-start
 
-shared-slice-read-if2 : tie.Need-shared-slice-read-if2 Inv-loop μ-loop
-shared-slice-read-if2 c = search needs
+shared-slice-read-alike : tie.Need-shared-slice-read-alike Inv-loop μ-loop
+shared-slice-read-alike c = search needs
 
-shared-slice-read-if2-2 : tie.Need-shared-slice-read-if2-2 Inv-loop μ-loop
-shared-slice-read-if2-2 c = search needs
-
-returns-2 : tie.Need-returns-2 Inv-loop μ-loop
-returns-2 c = search alike-not
+shared-slice-read-alike-2 : tie.Need-shared-slice-read-alike-2 Inv-loop μ-loop
+shared-slice-read-alike-2 c = search needs
 
 add-i : tie.Need-add-i Inv-loop μ-loop
 add-i c = omega arith
@@ -37,8 +34,8 @@ loop-less c = omega arith
 loop-again : tie.Need-loop-again Inv-loop μ-loop
 loop-again c = search alike-more
 
-returns-3 : tie.Need-returns-3 Inv-loop μ-loop
-returns-3 c = search alike-end
+returns-2 : tie.Need-returns-2 Inv-loop μ-loop
+returns-2 c = search alike-end
 
 pub same-octets-spec : {M : Type 1} → statement M
 same-octets-spec =
@@ -48,10 +45,9 @@ same-octets-spec =
     μ-loop
     returns
     loop-holds
-    shared-slice-read-if2
-    shared-slice-read-if2-2
-    returns-2
+    shared-slice-read-alike
+    shared-slice-read-alike-2
     add-i
     loop-less
     loop-again
-    returns-3)
+    returns-2)
