@@ -21,11 +21,12 @@ run:
 	@echo
 	target/bin/pair < examples/two-recorders.txt
 
-# The reference's own tests run beside `rt ci`, which at first proves one crate after the other. What needs the proved library and
-# programs runs over what it has left in target/; its verdict comes last again.
+# The reference's own tests run beside `rt ci`, which at first proves one crate after the other. It runs four checks at a time, also
+# on two cores: it waits for all of them before it starts the next, and they are unlike in length. What needs the proved library
+# and programs runs over what it has left in target/; its verdict comes last again.
 test:
-	$(CARGO) test $(REFERENCE) > $(BESIDE) 2>&1 & beside=$$!; rt ci | tee $(VERDICT) && { wait $$beside || { cat $(BESIDE); exit 1; }; }
-	rt staticlib trial
+	$(CARGO) test $(REFERENCE) > $(BESIDE) 2>&1 & beside=$$!; RT_JOBS=4 rt ci | tee $(VERDICT) && { wait $$beside || { cat $(BESIDE); exit 1; }; }
+	rt staticlib entries
 	$(MAKE) judge
 	target/judge/test
 	$(CARGO) test $(COMPARE) -- --nocapture
@@ -56,7 +57,7 @@ terminal:
 	target/terminal/test target/bin/conform < examples/one-port.txt
 
 bench:
-	rt staticlib trial
+	rt staticlib entries
 	rt check replay conform desk
 	$(CARGO) build $(REFERENCE) --bins
 	$(CARGO) run $(COMPARE) --bin bench
@@ -67,5 +68,5 @@ check-time:
 
 # Not in the gate: it needs tshark, which tests/tshark/install.sh installs.
 tshark:
-	rt staticlib trial
+	rt staticlib entries
 	$(CARGO) run $(COMPARE) --bin tshark

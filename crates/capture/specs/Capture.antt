@@ -7,7 +7,7 @@ use lib.ListN.{take, drop}
 use Rattle.octets.specs.Words.{if_then_else_, _is_}
 use Rattle.octets.specs.Octets.{same}
 use Rattle.octets.specs.Texts.{text}
-use Rattle.script.specs.Text.{isOctets, octetsOf}
+use Rattle.words.specs.Text.{isOctets, octetsOf}
 use Rattle.capture.specs.declared.Form.{Form}
 use Rattle.capture.specs.declared.Form.the-variants.{FromA, FromB, Other}
 

@@ -11,7 +11,7 @@ use borrow.Author.Tests.{lt-leb, leb-true, leb-false, eqb-true}
 use Rattle.octets.specs.Words.{if_then_else_, _atmost_, _is_}
 use Rattle.octets.specs.Octets.{at, same}
 use Rattle.octets.specs.Texts.{text}
-use Rattle.script.specs.Text.{isOctets, hexDigits}
+use Rattle.words.specs.Text.{isOctets, hexDigits}
 use Rattle.capture.specs.declared.Held.{Held}
 use Rattle.capture.specs.declared.Form.the-variants.{FromA, FromB, Other}
 use Rattle.capture.specs.Capture.{formOf}

@@ -12,7 +12,7 @@ use lib.Seq.{drop-cons, drop-drop}
 use borrow.Author.Tests.{eq-eqb, ne-eqb, not-true, not-false}
 use Rattle.octets.specs.Words.{if_then_else_, _is_}
 use Rattle.octets.specs.Octets.{at, same}
-use Rattle.script.specs.Text.{isOctets}
+use Rattle.words.specs.Text.{isOctets}
 use Rattle.capture.specs.declared.Form.{Form}
 use Rattle.capture.specs.declared.Form.the-variants.{FromA, FromB, Other}
 use Rattle.capture.specs.Capture.{formOf}

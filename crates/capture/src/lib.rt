@@ -39,7 +39,7 @@ pub fn form_of(line: &[u8]) -> Form
     if octets::octet(line, 1) != SPACE {
         return Form::Other;
     }
-    if !script::text::is_octets(octets::from(line, 2), FRAME) {
+    if !words::is_octets(octets::from(line, 2), FRAME) {
         return Form::Other;
     }
     let sender = octets::octet(line, 0);

@@ -1,11 +1,9 @@
 // Judges what one end of a cable sent by what our rules write (docs/FORMATS.md, The verdict of `conform`).
-use conformance::Judged;
 use conformance::Judging;
 use console::Lines;
 use console::arguments::Source;
-use console::settings::Settings;
-
-mod people;
+use judgement::Judged;
+use settings::Settings;
 
 // What was judged at the end of the input or behind the first frame that is not due; nothing where a read has failed.
 struct Ended {
@@ -47,9 +45,18 @@ fn feed_all(input: &mut [u8], start: Judging, first: Lines) -> Ended {
     }
 }
 
+// Puts the verdict and what belongs to it, and gives the place behind.
+fn tell(t: Judged, out: &mut [u8]) -> usize {
+    let at = conformance::text::verdict(t, out);
+    if !t.rejected {
+        return findings::accepted(out, at, t.course);
+    }
+    findings::rejected(out, at, t)
+}
+
 // Creates the port, judges the capture, and tells the verdict.
 fn run(input: &mut [u8], output: &mut [u8], s: Settings, alone: bool) {
-    let start = conformance::start(console::settings::port_with(s));
+    let start = conformance::start(settings::port_with(s));
     let ended = feed_all(
         input,
         start,
@@ -59,13 +66,13 @@ fn run(input: &mut [u8], output: &mut [u8], s: Settings, alone: bool) {
         console::streams::cannot_read(b"conform");
         return;
     }
-    let n = people::tell(ended.judged, output);
+    let n = tell(ended.judged, output);
     console::streams::write(b"conform", octets::first(output, n));
 }
 
 // Reads the settings from a descriptor, and if nothing is wrong with them judges the capture.
 fn serve(input: &mut [u8], output: &mut [u8], fd: i32, alone: bool) {
-    let s = console::settings::read_single(input, output, console::start(fd), alone);
+    let s = settings::read_single(input, output, console::start(fd), alone);
     if s.good {
         run(input, output, s.end, alone);
         return;

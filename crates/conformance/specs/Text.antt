@@ -6,7 +6,7 @@ use lib.ListN.{length, drop}
 use Rattle.octets.specs.Words.{if_then_else_, _below_}
 use Rattle.octets.specs.Texts.{text}
 use Rattle.numerals.specs.Numerals.{decimal}
-use Rattle.conformance.specs.declared.Judged.{Judged}
+use Rattle.judgement.specs.declared.Judged.{Judged}
 use Rattle.conformance.specs.Conformance.{Verdict, Accepted, Rejected}
 use Rattle.conformance.specs.Steps.{verdictOf}
 

@@ -12,7 +12,7 @@ use Rattle.octets.specs.Words.{if_then_else_, _below_}
 use Rattle.octets.specs.Texts.{text}
 use Rattle.numerals.specs.Numerals.{decimal, more}
 use Rattle.numerals.specs.NumeralLaws.{Laid, laid-both}
-use Rattle.conformance.specs.declared.Judged.{Judged}
+use Rattle.judgement.specs.declared.Judged.{Judged}
 use Rattle.conformance.specs.Conformance.{Verdict, Accepted, Rejected}
 use Rattle.conformance.specs.Steps.{verdictOf}
 use Rattle.conformance.specs.Text.{verdictText, saidLength, saidOutput, Says}

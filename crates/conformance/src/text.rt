@@ -5,7 +5,7 @@ ghost use lib.ListN.{length};
 ghost use Rattle.numerals.specs.NumeralLaws.{Laid};
 ghost use Rattle.conformance.specs.Conformance.{Accepted, Rejected};
 ghost use Rattle.conformance.specs.Text.{verdictText, Says};
-use crate::Judged;
+use judgement::Judged;
 
 const SPACE: u8 = 32;
 

@@ -1,10 +1,9 @@
-// Lines of an input, the settings that stand in them, and what programs write. The caller lends the buffer.
+// Where a program's input comes from, its lines, and what programs write. The caller lends the buffer.
 ghost use mathlib.Core.Path.{_≡_};
 ghost use Prim.Native.Nat.{_+_, _-_, _≤_};
 ghost use lib.ListN.{length};
 
 pub mod arguments;
-pub mod settings;
 pub mod streams;
 
 // What is kept of a line that fills the whole buffer: enough to see that it cannot be read, or is a comment.

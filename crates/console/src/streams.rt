@@ -59,9 +59,9 @@ pub fn show(program: &[u8], terminal: bool, shown: u64, read: u64) -> u64 {
     }
     let mut text = io::buffer();
     let numbers = [lines];
-    let from = report::text(&mut text, 0, b"\r");
-    let named = report::text(&mut text, from, program);
-    let n = report::forms::put(&mut text, named, b": # lines", &numbers);
+    let from = printing::text(&mut text, 0, b"\r");
+    let named = printing::text(&mut text, from, program);
+    let n = printing::forms::put(&mut text, named, b": # lines", &numbers);
     io::write_all(libc::STDERR_FILENO, octets::first(&text, n));
     lines
 }

@@ -89,8 +89,8 @@ fn run(input: &mut [u8], output: &mut [u8], start: Recorder, first: Lines, behin
         let from = report::ports::first(output, p.at, w.given, w.number);
         let i = recorder::place_of(w.number);
         if script::is_frame(said) {
-            let o = script::frame_octets(said);
-            let frame = octets::first(&o, script::frame_length(said));
+            let o = words::frame_octets(said);
+            let frame = octets::first(&o, words::frame_length(said));
             let k = repeating::repeat(w.number, held.ports[i], frame);
             if k.holds {
                 let c = k.control;
@@ -126,7 +126,7 @@ fn run(input: &mut [u8], output: &mut [u8], start: Recorder, first: Lines, behin
 
 // Reads the settings from a descriptor, and if nothing is wrong with them runs the events.
 fn serve(input: &mut [u8], output: &mut [u8], fd: i32, alone: bool) {
-    let s = console::settings::read_recorder(input, output, console::start(fd), alone);
+    let s = settings::read_recorder(input, output, console::start(fd), alone);
     let lines = s.lines;
     if lines.failed {
         console::streams::cannot_read(b"desk");

@@ -6,9 +6,9 @@ use mathlib.Core.Logic.{⊎-elim}
 use mathlib.Core.Bool.{Bool, true, false, false≢true}
 use mathlib.Core.List.{List}
 use mathlib.Core.Option.{Option, none, some}
-use Rattle.feature.specs.State.{next}
+use Rattle.machine.specs.State.{next}
 use Rattle.handling.specs.Handling.{Message}
-use Rattle.exchange.specs.Rounds.{left, right, Call, refused, writes, handles}
+use Rattle.rounds.specs.Rounds.{left, right, Call, refused, writes, handles}
 use Rattle.exchange.proofs.Core.{Settings, Core, message, features, started, gated, recv}
 use Rattle.exchange.proofs.Numbers.{next-other, Marked, raises-cases, All-synced, All-shown, All-marked, to-marked, shown-all, Stays, stays, keeps-marked, raised-shown, skipped, skipped-all}
 use Rattle.exchange.proofs.Stages.{Fit, present, Bound, bound-fresh, Version, Error, Low, Answers, Concluded, bound-of, version-shown, error-shown, answers-version, answers-error, answers-full, answers-next, After0}

@@ -9,26 +9,27 @@ use lib.Seq.{take-append-seam}
 use Rattle.octets.specs.Words.{if_then_else_, _below_, _is_}
 use Rattle.tlv.specs.declared.Refusal.{Refusal}
 use Rattle.tlv.specs.declared.Refusal.the-variants as refusal
-use Rattle.tlv.specs.declared.Reading.{Reading}
-use Rattle.tlv.specs.declared.Reading.the-variants.{Refused, Accepted}
-use Rattle.tlv.specs.declared.Contents.{Contents}
-use Rattle.tlv.specs.declared.Found.{Found}
+use Rattle.contents.specs.declared.Reading.{Reading}
+use Rattle.contents.specs.declared.Reading.the-variants.{Refused, Accepted}
+use Rattle.contents.specs.declared.Contents.{Contents}
+use Rattle.contents.specs.declared.Found.{Found}
 use Rattle.tlv.specs.declared.Revision.{Revision}
 use Rattle.tlv.specs.declared.Revision.the-variants.{Rev101, Rev10}
-use Rattle.tlv.specs.Layout.{readFrame}
-use Rattle.tlv.specs.Revisions.{hasApplications, withoutApplications, skipping, readFor}
+use Rattle.reading.specs.Reading.{readFrame}
+use Rattle.tlv.specs.Revisions.{hasApplications}
+use Rattle.reading.specs.Revisions.{withoutApplications, skipping, readFor}
 use Rattle.parameters.specs.declared.Feature.the-variants.{Groups, Flow, Applications}
 use Rattle.feature.specs.declared.Setting.{Setting}
 use Rattle.feature.specs.declared.State.{State}
 use Rattle.feature.specs.Outcome.{Received, lower}
-use Rattle.feature.specs.State.{acknowledged, received}
+use Rattle.turn.specs.Turn.{acknowledged, received}
 use Rattle.port.specs.declared.Port.{Port}
 use Rattle.port.specs.declared.Event.{Event}
 use Rattle.port.specs.declared.Written.the-variants as wrote
 use Rattle.port.specs.declared.Answer.the-variants as answer
 use Rattle.port.specs.Parts.{three, withControl, withFeatures, running}
 use Rattle.port.specs.Writing.{frame, written, output}
-use Rattle.events.specs.PortEvents.{completed}
+use Rattle.sending.specs.Sending.{completed}
 use Rattle.handling.specs.Handling.{message, twice, met, numbered, exchanged, once, steps1to4, frameEvent, accepted, breaks, withBroken, rejected, given, handled}
 use Rattle.port.specs.Sound.{SoundPort}
 use Rattle.exchange.proofs.Core as core

@@ -13,12 +13,12 @@ use Rattle.parameters.specs.Parameters.{content}
 use Rattle.feature.specs.declared.Outcome.{Outcome}
 use Rattle.feature.specs.Outcome.{lower, outcome}
 use Rattle.feature.specs.Outcome as rules
-use Rattle.feature.specs.State.{flags, fresh}
+use Rattle.machine.specs.State.{flags, fresh}
 use Rattle.port.specs.declared.Port.{Port}
 use Rattle.port.specs.Parts.{featureOf}
 use Rattle.port.specs.Settled.{settled}
 use Rattle.port.specs.Sound.{SoundPort}
-use Rattle.exchange.specs.Rounds.{Side, sideOf, receivedAlone, ruled, alone, expected}
+use Rattle.exchange.specs.Expected.{Side, sideOf, receivedAlone, ruled, alone, expected}
 use Rattle.exchange.specs.Demand3.{Agreed, Truthful}
 use Rattle.exchange.proofs.Core.{Settings, advertised, Machine, Core}
 use Rattle.exchange.proofs.View.{settings, view}

@@ -9,10 +9,10 @@ use Rattle.parameters.specs.Parameters.{content}
 use Rattle.feature.specs.declared.Outcome.{Outcome}
 use Rattle.feature.specs.declared.State.{State}
 use Rattle.feature.specs.Outcome.{Received, outcome}
-use Rattle.feature.specs.State.{next, flags, fresh}
+use Rattle.machine.specs.State.{next, flags, fresh}
 use Rattle.port.specs.Parts.{some}
 use Rattle.handling.specs.Handling.{Message}
-use Rattle.exchange.specs.Rounds.{Side}
+use Rattle.exchange.specs.Expected.{Side}
 
 -- what an end is set to: control's highest version, and each feature's with its setting
 pub record Settings : Type 0 where

@@ -1,5 +1,5 @@
 -- Demand 3, whole, of every two ports that have just started. Assumes nothing.
-use Rattle.exchange.specs.Rounds.{Ends, rounds, lossyRounds}
+use Rattle.rounds.specs.Rounds.{Ends, rounds, lossyRounds}
 use Rattle.exchange.specs.Demand3.{Begun, Demand3}
 use Rattle.exchange.proofs.View.{settings}
 use Rattle.exchange.proofs.Pairs.{begin}

@@ -9,19 +9,21 @@ use borrow.Author.Tests.{eqb-true}
 use Rattle.octets.specs.Words.{if_then_else_}
 use Rattle.octets.specs.Octets.{at, number4, octets4, headed, head}
 use Rattle.octets.specs.Laws.{and-left}
-use Rattle.tlv.specs.declared.Contents.{Contents}
-use Rattle.tlv.specs.declared.Reading.the-variants.{Accepted}
-use Rattle.tlv.specs.Layout.{fixedOctets, frameHead, walked, readFrame, valueOf}
-use Rattle.tlv.specs.ValuesLaws.{Counted, Values, Part, Parts, partsOctets, partCounted, partsValues, LaidOut}
-use Rattle.tlv.specs.ReadBackLaws.{ReadBack, read-parts}
+use Rattle.contents.specs.declared.Contents.{Contents}
+use Rattle.contents.specs.declared.Reading.the-variants.{Accepted}
+use Rattle.tlv.specs.Layout.{fixedOctets, frameHead}
+use Rattle.reading.specs.Reading.{walked, readFrame}
+use Rattle.contents.specs.Contents.{valueOf}
+use Rattle.reading.specs.ValuesLaws.{Counted, Values, Part, Parts, partsOctets, partCounted, partsValues, LaidOut}
+use Rattle.reading.specs.ReadBackLaws.{ReadBack, read-parts}
 use Rattle.parameters.specs.declared.Feature.{Feature}
 use Rattle.parameters.specs.declared.Feature.the-variants.{Groups, Flow, Applications}
 use Rattle.parameters.specs.Parameters.{featureNumber, validGroups, validFlow, valid, ours, content}
-use Rattle.parameters.specs.FeatureLaws.{ours-length}
+use Rattle.config.specs.FeatureLaws.{ours-length}
 use Rattle.feature.specs.declared.Release.{Release}
 use Rattle.feature.specs.declared.Setting.{Setting}
 use Rattle.feature.specs.Outcome.{Received}
-use Rattle.feature.specs.State.{value, releaseTlv}
+use Rattle.machine.specs.State.{value, releaseTlv}
 use Rattle.port.specs.declared.Port.{Port}
 use Rattle.port.specs.Parts.{featureOf, releasedOf}
 use Rattle.port.specs.Writing.{controlValue, releasedTlv, subTlvs, frame}

@@ -13,18 +13,19 @@ use Rattle.parameters.specs.declared.Feature.{Feature}
 use Rattle.parameters.specs.declared.Feature.the-variants.{Groups, Flow, Applications}
 use Rattle.parameters.specs.Parameters as parameters
 use Rattle.parameters.specs.Parameters.{mask, valid, compatible, ours, stored, content}
-use Rattle.parameters.specs.FeatureLaws.{ours-length}
+use Rattle.config.specs.FeatureLaws.{ours-length}
 use Rattle.parameters.specs.StoringLaws.{content-stored}
-use Rattle.parameters.specs.OursLaws.{compatible-ours}
-use Rattle.parameters.specs.CompatibleLaws.{compatible-comm, compatible-refl}
+use Rattle.applications.specs.OursLaws.{compatible-ours}
+use Rattle.config.specs.CompatibleLaws.{compatible-comm, compatible-refl}
 use Rattle.feature.specs.declared.Outcome.{Outcome}
 use Rattle.feature.specs.declared.Peer.{Peer}
 use Rattle.feature.specs.Outcome as rules
-use Rattle.feature.specs.State.{freshAt, fresh}
+use Rattle.machine.specs.State.{freshAt, fresh}
 use Rattle.feature.specs.RulesLaws.{judgedBy, judged-by}
 use Rattle.port.specs.declared.Port.{Port}
 use Rattle.port.specs.Parts.{featureOf}
-use Rattle.exchange.specs.Rounds.{Ends, Side, sideOf, rounds, lossyRounds, execAll, receivedAlone, ruled, alone, expected}
+use Rattle.rounds.specs.Rounds.{Ends, rounds, lossyRounds, execAll}
+use Rattle.exchange.specs.Expected.{Side, sideOf, receivedAlone, ruled, alone, expected}
 use Rattle.exchange.specs.Demand3.{Begun, Agreed, BothAgreed, SettledAgreed}
 use Rattle.exchange.specs.Recorders as recorders
 use Rattle.exchange.specs.Recorders.{Cable, Recorders, ends, Joins}

@@ -5,9 +5,10 @@ use mathlib.Core.Bool.{Bool, true, false}
 use mathlib.Core.List.{List}
 use mathlib.Core.Option.{Option, none, some}
 use Rattle.parameters.specs.declared.Feature.{Feature}
-use Rattle.feature.specs.State.{freshAt}
+use Rattle.machine.specs.State.{freshAt}
 use Rattle.handling.specs.Handling.{Message}
-use Rattle.exchange.specs.Rounds.{left, right, Call, refused, writes, handles, Side}
+use Rattle.rounds.specs.Rounds.{left, right, Call, refused, writes, handles}
+use Rattle.exchange.specs.Expected.{Side}
 use Rattle.exchange.proofs.Core.{Settings, advertised, Core, synced, handled, freshMachine, started, gated, recv}
 use Rattle.exchange.proofs.Pairs.{Pair, given, step, run, begin, run-keeps}
 

@@ -14,7 +14,7 @@ use Rattle.feature.specs.declared.Setting.{Setting}
 use Rattle.feature.specs.declared.State.{State}
 use Rattle.feature.specs.Outcome.{Received, operOf, maxOf, parametersOf, lower, heldPeer, withoutPeer, judged, outcome}
 use Rattle.feature.specs.RulesLaws.{judged-oper}
-use Rattle.feature.specs.State.{acknowledged}
+use Rattle.turn.specs.Turn.{acknowledged}
 use Rattle.handling.proofs.Tests.{or-cases}
 
 -- one readable sub-TLV: Oper becomes the lower of the two Max, whatever was received

@@ -8,10 +8,11 @@ use Rattle.parameters.specs.declared.Feature.{Feature}
 use Rattle.feature.specs.declared.Peer.{Peer}
 use Rattle.feature.specs.declared.Outcome.{Outcome}
 use Rattle.feature.specs.Outcome.{noPeer, outcome}
-use Rattle.feature.specs.State.{freshAt}
+use Rattle.machine.specs.State.{freshAt}
 use Rattle.handling.specs.Handling.{Message}
 use Rattle.port.specs.Sound.{SoundParameters}
-use Rattle.exchange.specs.Rounds.{left, right, Call, refused, writes, handles, Side}
+use Rattle.rounds.specs.Rounds.{left, right, Call, refused, writes, handles}
+use Rattle.exchange.specs.Expected.{Side}
 use Rattle.exchange.proofs.Core.{Settings, Offer, Machine, Core, written, message, synced, marked, handled, freshMachine, started, gated, recv}
 use Rattle.exchange.proofs.Outcomes.{peer-is}
 use Rattle.exchange.proofs.Pairs.{Pair, given, step, run, begin, run-keeps}

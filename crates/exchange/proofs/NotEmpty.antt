@@ -13,7 +13,7 @@ use Rattle.port.specs.declared.Written.the-variants as wrote
 use Rattle.port.specs.Writing.{frame, written}
 use Rattle.port.specs.Sound.{SoundPort}
 use Rattle.port.specs.WritingLaws.{frame-longest}
-use Rattle.exchange.specs.Rounds.{left, right, other, writes, handles, Ends, Round, quiet, maybe, writeOf, handleOf, calls, rounds, exec, Accepts, Proper}
+use Rattle.rounds.specs.Rounds.{left, right, other, writes, handles, Ends, Round, quiet, maybe, writeOf, handleOf, calls, rounds, exec, Accepts, Proper}
 use Rattle.exchange.specs.Demand3.{Begun}
 use Rattle.exchange.proofs.Core.{Settings}
 use Rattle.exchange.proofs.View.{settings}

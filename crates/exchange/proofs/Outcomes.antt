@@ -16,9 +16,9 @@ use Rattle.feature.specs.declared.Peer.{Peer}
 use Rattle.feature.specs.declared.Outcome.{Outcome}
 use Rattle.feature.specs.declared.Reason.the-variants.{Absent, Bad, Waiting}
 use Rattle.feature.specs.Outcome.{Received, noPeer, withoutPeer, judged, outcome}
-use Rattle.feature.specs.State.{flags}
+use Rattle.machine.specs.State.{flags}
 use Rattle.port.specs.Sound.{SoundParameters}
-use Rattle.exchange.specs.Rounds.{Side, receivedAlone, ruled}
+use Rattle.exchange.specs.Expected.{Side, receivedAlone, ruled}
 use Rattle.exchange.proofs.Core.{Offer, offerOf, written, changed}
 use Rattle.exchange.proofs.Laws.{lower-of-two}
 use Rattle.handling.proofs.Tests.{is-same, beq-same, beq-not}

@@ -13,14 +13,14 @@ use Rattle.notices.specs.PortLaws.{port-is}
 use Rattle.handling.specs.Handling as handling
 use Rattle.recorder.specs.declared.Recorder.{Recorder}
 use Rattle.recorder.specs.Recorder.{portAt, happens, changed, written, output}
-use Rattle.recorder.specs.Calls as recorder
-use Rattle.recorder.specs.Calls.{eventOf, afterAt, after, replyOf}
-use Rattle.recorder.specs.Rows.{isFrame}
-use Rattle.recorder.specs.Independent.{isEvent}
-use Rattle.recorder.proofs.Independent.{four-after, idle, own-after, other-after}
-use Rattle.recorder.proofs.Demand1.{refused-leaves}
-use Rattle.exchange.specs.Rounds.{End, left, right, Ends, Call, refused, write, frame, writes, handles, Round, rounds, lossyRounds}
-use Rattle.exchange.specs.Rounds as ports
+use Rattle.calls.specs.Calls as recorder
+use Rattle.calls.specs.Calls.{eventOf, afterAt, after, replyOf}
+use Rattle.calls.specs.Rows.{isFrame}
+use Rattle.calls.specs.Independent.{isEvent}
+use Rattle.calls.proofs.Independent.{four-after, idle, own-after, other-after}
+use Rattle.calls.proofs.Demand1.{refused-leaves}
+use Rattle.rounds.specs.Rounds.{End, left, right, Ends, Call, refused, write, frame, writes, handles, Round, rounds, lossyRounds}
+use Rattle.rounds.specs.Rounds as ports
 use Rattle.exchange.specs.Demand3.{Begun, BothAgreed, BothTruthful, SettledAgreed}
 use Rattle.exchange.specs.Recorders.{Cable, numberAt, Recorders, recorderAt, ends, Happening, exchange, beside, called, operated, onItsWay, wrote, delivered, exec, execAll, spares, Proper, exchanged, Joins, JoinedDemand3}
 use Rattle.exchange.proofs.Demand3.{demand3}

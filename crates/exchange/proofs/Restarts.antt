@@ -12,14 +12,17 @@ use Rattle.tlv.specs.Revisions.{hasApplications}
 use Rattle.parameters.specs.declared.Feature.{Feature}
 use Rattle.parameters.specs.declared.Feature.the-variants.{Applications}
 use Rattle.feature.specs.declared.Switches.{Switches}
-use Rattle.feature.specs.State.{next, stopped}
+use Rattle.machine.specs.State.{next, stopped}
 use Rattle.port.specs.declared.Flag.{Flag}
 use Rattle.port.specs.declared.Flag.the-variants.{Admin, Receive, Transmit, Several}
 use Rattle.port.specs.declared.Port.{Port}
 use Rattle.port.specs.declared.Versions.{Versions}
 use Rattle.port.specs.declared.Raised.{Raised}
 use Rattle.port.specs.Parts.{switchedOff, featureOf, maxOf, withControl, withFeatures, release, flagOf, withFlag, running}
-use Rattle.events.specs.PortEvents.{withSeq, raisesSeqNo, sent, freshParts, freshPort, refused, unchanged, event, createdPort, settingsValid, restarts, flagNotice, flagSet, flagged, peerGone}
+use Rattle.sending.specs.Sending.{withSeq, raisesSeqNo, sent, freshParts, freshPort}
+use Rattle.events.specs.PortEvents.{refused, unchanged, event}
+use Rattle.creation.specs.Creation.{createdPort, settingsValid}
+use Rattle.flags.specs.Flags.{restarts, flagNotice, flagSet, flagged, peerGone}
 use Rattle.port.specs.Replies.{eventReply}
 use Rattle.port.specs.Sound.{SoundPort}
 use Rattle.handling.proofs.Tests.{beq-not}

@@ -8,14 +8,15 @@ use Rattle.parameters.specs.declared.Feature.the-variants.{Applications}
 use Rattle.feature.specs.declared.Reason.the-variants.{Absent}
 use Rattle.feature.specs.declared.Outcome.{Outcome}
 use Rattle.feature.specs.declared.Setting.{Setting}
-use Rattle.feature.specs.State.{releaseTlv}
+use Rattle.machine.specs.State.{releaseTlv}
 use Rattle.feature.specs.Outcome.{outcome}
 use Rattle.port.specs.declared.Port.{Port}
 use Rattle.port.specs.Writing.{releasedTlv}
 use Rattle.port.specs.Sound.{SoundPort}
 use Rattle.recorder.specs.Recorder.{portAt}
-use Rattle.recorder.proofs.Reachable.{reachable-sound}
-use Rattle.exchange.specs.Rounds.{Side, Ends, sideOf, receivedAlone, ruled, alone, expected}
+use Rattle.calls.proofs.Reachable.{reachable-sound}
+use Rattle.rounds.specs.Rounds.{Ends}
+use Rattle.exchange.specs.Expected.{Side, sideOf, receivedAlone, ruled, alone, expected}
 use Rattle.exchange.specs.Demand3.{Begun, Agreed}
 use Rattle.exchange.specs.Revisions.{BesideOlder, UnlikeEnds, WritesNoApplications}
 use Rattle.exchange.proofs.Demand3.{demand3}

@@ -8,11 +8,11 @@ use lib.ListN.{take}
 use Rattle.octets.specs.Words.{if_then_else_}
 use Rattle.octets.specs.Octets.{at, number4}
 use Rattle.notices.specs.Notices.{isPort}
-use Rattle.tlv.specs.declared.Contents.{Contents}
-use Rattle.tlv.specs.declared.Found.{Found}
+use Rattle.contents.specs.declared.Contents.{Contents}
+use Rattle.contents.specs.declared.Found.{Found}
 use Rattle.tlv.specs.declared.Revision.{Revision}
 use Rattle.tlv.specs.declared.Revision.the-variants.{Rev101, Rev10}
-use Rattle.tlv.specs.Layout.{valueOf}
+use Rattle.contents.specs.Contents.{valueOf}
 use Rattle.tlv.specs.Revisions.{hasApplications}
 use Rattle.tlv.specs.declared.Refusal.the-variants.{NoPort}
 use Rattle.parameters.specs.declared.Feature.{Feature}
@@ -26,7 +26,7 @@ use Rattle.port.specs.Writing.{frame, written, output}
 use Rattle.port.specs.Sound.{SoundPort}
 use Rattle.handling.specs.Handling.{hasOf, message}
 use Rattle.recorder.specs.Recorder as recorder
-use Rattle.recorder.proofs.Reachable.{reachable-sound}
+use Rattle.calls.proofs.Reachable.{reachable-sound}
 use Rattle.exchange.specs.RoundTrip.{knows, FoundOnce, ReadsBack, RoundTrip, RoundTrips}
 use Rattle.exchange.proofs.Core as core
 use Rattle.exchange.proofs.Outcomes.{flag-enable, flag-willing, flag-error}

@@ -6,7 +6,7 @@ use mathlib.Core.Bool.{Bool}
 use mathlib.Core.List.{List, [], _∷_, _++_}
 use mathlib.Core.Option.{some}
 use lib.ListN.{length}
-use Rattle.exchange.specs.Rounds.{End, left, right, other, Round, lossless, quiet, maybe, writeOf, handleOf, calls, rounds}
+use Rattle.rounds.specs.Rounds.{End, left, right, other, Round, lossless, quiet, maybe, writeOf, handleOf, calls, rounds}
 use Rattle.exchange.proofs.Core.{Settings, message, started, recv}
 use Rattle.exchange.proofs.Pairs.{Pair, given, step, run, begin, run-append, run-quiet}
 use Rattle.exchange.proofs.Stages.{Fit, After6}

@@ -6,12 +6,12 @@ use mathlib.Core.List.{List, [], _∷_}
 use mathlib.Core.Option.{Option, none, some}
 use Rattle.port.specs.declared.Port.{Port}
 use Rattle.port.specs.Parts.{running}
-use Rattle.events.specs.PortEvents.{completed}
+use Rattle.sending.specs.Sending.{completed}
 use Rattle.port.specs.Writing as writing
 use Rattle.handling.specs.Handling.{Message, once}
 use Rattle.handling.specs.Handling as handling
 use Rattle.port.specs.Sound.{SoundPort}
-use Rattle.exchange.specs.Rounds.{left, right, write, frame, Call, refused, writes, handles, Ends, afterWrite, onItsWay, delivered, exec, execAll, Accepts, RefusesWrite, RefusesFrame, Answers, Proper}
+use Rattle.rounds.specs.Rounds.{left, right, write, frame, Call, refused, writes, handles, Ends, afterWrite, onItsWay, delivered, exec, execAll, Accepts, RefusesWrite, RefusesFrame, Answers, Proper}
 use Rattle.exchange.proofs.Core.{Settings, Core, message, recv}
 use Rattle.exchange.proofs.View.{settings, view, Kept, Offers, runs-same, view-marked, kept-marked, offers-marked, view-once, kept-once, offers-once}
 use Rattle.exchange.proofs.Calls.{write-leaves, refused-marks, delivered-port}

@@ -8,7 +8,7 @@ use borrow.Author.Tests.{eq-eqb}
 use Rattle.parameters.specs.declared.Feature.{Feature}
 use Rattle.feature.specs.declared.Outcome.{Outcome}
 use Rattle.port.specs.Sound.{SoundParameters}
-use Rattle.exchange.specs.Rounds.{ruled, alone}
+use Rattle.exchange.specs.Expected.{ruled, alone}
 use Rattle.exchange.proofs.Core.{Settings, advertised, Offer, offerOf, Machine, Core, message, changed, synced, marked, released, features, gated, recv}
 use Rattle.exchange.proofs.Outcomes.{version, version-le, version-is, answer, answer-is, error-final, outcome-final, unchanged}
 use Rattle.exchange.proofs.Numbers.{All-synced, All-shown, Sent, SentMarked, Held, HeldMarked, Done, turned, Quiet, new-out, feature-is, raised}

@@ -6,11 +6,12 @@ use Rattle.octets.specs.Words.{if_then_else_}
 use Rattle.parameters.specs.declared.Feature.{Feature}
 use Rattle.parameters.specs.declared.Feature.the-variants.{Groups, Flow, Applications}
 use Rattle.feature.specs.declared.Setting.{Setting}
-use Rattle.feature.specs.State.{freshAt, fresh, stopped}
+use Rattle.machine.specs.State.{freshAt, fresh, stopped}
 use Rattle.port.specs.declared.Port.{Port}
 use Rattle.port.specs.Parts.{featureOf, withFeatures, running}
-use Rattle.events.specs.PortEvents.{freshParts, freshPort, sent}
-use Rattle.exchange.specs.Rounds.{sideOf, Ends}
+use Rattle.sending.specs.Sending.{freshParts, freshPort, sent}
+use Rattle.rounds.specs.Rounds.{Ends}
+use Rattle.exchange.specs.Expected.{sideOf}
 use Rattle.exchange.specs.Demand3.{JustStarted, Begun}
 use Rattle.exchange.proofs.Core as core
 use Rattle.exchange.proofs.Core.{offerOf, machineOf, freshMachine, started}

@@ -16,16 +16,18 @@ use Rattle.notices.specs.PortLaws.{port-is}
 use Rattle.port.specs.declared.Flag.{Flag}
 use Rattle.port.specs.declared.Flag.the-variants.{Several}
 use Rattle.port.specs.declared.Versions.{Versions}
-use Rattle.events.specs.PortEvents.{refused, made, createdPort, settingsValid, versionsFor, switchesFor, parametersFor, flagged, peerGone}
-use Rattle.events.specs.PortEvents as events
+use Rattle.events.specs.PortEvents.{refused}
+use Rattle.creation.specs.Creation.{made, createdPort, settingsValid, versionsFor, switchesFor, parametersFor}
+use Rattle.flags.specs.Flags.{flagged, peerGone}
+use Rattle.creation.specs.Creation as creation
 use Rattle.port.specs.Replies.{eventReply}
 use Rattle.handling.proofs.Standing.{Standing}
 use Rattle.recorder.specs.declared.Recorder.{Recorder}
 use Rattle.recorder.specs.Recorder.{portAt, happens, changed, created}
-use Rattle.recorder.specs.Calls.{create, gone, flag, eventOf, afterAt, replyAt}
-use Rattle.recorder.specs.Sound.{InRange, SoundRecorder}
-use Rattle.recorder.proofs.Independent.{four-after, own-after}
-use Rattle.recorder.proofs.Reachable.{versions-small, reachable-sound}
+use Rattle.calls.specs.Calls.{create, gone, flag, eventOf, afterAt, replyAt}
+use Rattle.calls.specs.Sound.{InRange, SoundRecorder}
+use Rattle.calls.proofs.Independent.{four-after, own-after}
+use Rattle.calls.proofs.Reachable.{versions-small, reachable-sound}
 use Rattle.exchange.specs.Demand3.{JustStarted}
 use Rattle.exchange.specs.Starting.{Restarts, Starting}
 use Rattle.exchange.proofs.Restarts.{gone-starts, flag-starts, several-starts, created-starts}
@@ -64,7 +66,7 @@ module _ (r : Recorder) (h : SoundRecorder r) (n : ℕ) where
 
   created-by : (v : Versions) (w : Feature → Switches) (o : Feature → List ℕ) → InRange (create v w o) → replyAt r n (create v w o) .number ≡ 0
       → JustStarted (portAt (afterAt r n (create v w o)) n)
-  unfolding replyAt eventOf created events.created events.createdWith refusalNumber
+  unfolding replyAt eventOf created creation.created creation.createdWith refusalNumber
   created-by v w o k e = rw (own-after r (h .four) n (create v w o)) (by (isPort n) (settingsValid taken) refl e)
     where
       taken : Feature → List ℕ

@@ -11,8 +11,8 @@ use Rattle.feature.specs.declared.Release.{Release}
 use Rattle.feature.specs.declared.State.{State}
 use Rattle.port.specs.declared.Port.{Port}
 use Rattle.port.specs.Parts.{releasedOf, running}
-use Rattle.recorder.specs.Demand1.{unmarked}
-use Rattle.exchange.specs.Rounds.{Ends, Round, lossless, calls, rounds, execAll, Proper}
+use Rattle.calls.specs.Demand1.{unmarked}
+use Rattle.rounds.specs.Rounds.{Ends, Round, lossless, calls, rounds, execAll, Proper}
 use Rattle.exchange.specs.Demand3.{Begun}
 use Rattle.exchange.proofs.Core.{Settings, Core}
 use Rattle.exchange.proofs.View.{settings, view}

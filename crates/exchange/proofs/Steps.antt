@@ -11,9 +11,10 @@ use Rattle.parameters.specs.Parameters.{featureNumber, content}
 use Rattle.feature.specs.declared.Outcome.{Outcome}
 use Rattle.feature.specs.declared.State.{State}
 use Rattle.feature.specs.Outcome.{Received, outcome}
-use Rattle.feature.specs.State.{next, flags, value, withOutcome, present, releaseTlv, subTlv}
-use Rattle.feature.specs.State as state
-use Rattle.exchange.specs.Rounds.{Side}
+use Rattle.machine.specs.State.{next, flags, value, withOutcome, present, releaseTlv, subTlv}
+use Rattle.turn.specs.Turn as turn
+use Rattle.machine.specs.State as machine
+use Rattle.exchange.specs.Expected.{Side}
 use Rattle.exchange.proofs.Core as core
 use Rattle.exchange.proofs.Core.{machineOf}
 use Rattle.handling.proofs.Tests.{is-same}
@@ -47,11 +48,11 @@ sideOfState x = record { max = x .max; setting = x .setting }
 
 -- the state after steps 3 and 4, with an outcome
 abbrev after : ℕ → ℕ → State → Outcome → State
-after rcvd seq x o = withOutcome (state.acknowledged rcvd seq x) o
+after rcvd seq x o = withOutcome (turn.acknowledged rcvd seq x) o
 
 changed-octets : (f : Feature) (x : State) (rcvd seq : ℕ) (o : Outcome) → x .setting .advertise ≡ true →
-    state.changed f x (after rcvd seq x o) ≡ core.changed (x .outcome) o
-unfolding state.differing core.changed state.acknowledged same
+    machine.changed f x (after rcvd seq x o) ≡ core.changed (x .outcome) o
+unfolding machine.differing core.changed turn.acknowledged same
 changed-octets f x rcvd seq o a =
     simp (subTlv-is f x a, subTlv-is f (after rcvd seq x o) a, is-same, same-flags)
     (rw (same-refl (content (x .setting .desired)), and-true (Bool·beq (x .outcome .error) (o .error))))
@@ -62,18 +63,18 @@ changed-octets f x rcvd seq o a =
 abbrev asked : ℕ → State → State
 asked seq x = record { max = x .max; setting = x .setting; outcome = x .outcome; syncd = false; sequence = next seq }
 
-marked-by : (f : Feature) (seq : ℕ) (x y : State) (b : Bool) → state.changed f x y ≡ b →
-    state.marked f seq x y ≡ (if b then asked seq y else y)
-unfolding state.marked
+marked-by : (f : Feature) (seq : ℕ) (x y : State) (b : Bool) → machine.changed f x y ≡ b →
+    machine.marked f seq x y ≡ (if b then asked seq y else y)
+unfolding machine.marked
 marked-by f seq x y b e = ap (λ c. if c then asked seq y else y) e
 
-pub marked-same : (f : Feature) (seq : ℕ) (x : State) → state.marked f seq x x ≡ x
-unfolding state.differing
+pub marked-same : (f : Feature) (seq : ℕ) (x : State) → machine.marked f seq x x ≡ x
+unfolding machine.differing
 marked-same f seq x = marked-by f seq x x false (ap not (same-refl (subTlv f x)))
 
 -- a feature after steps 3 to 5
 abbrev pub stepped : Feature → ℕ → ℕ → Received → State → State
-stepped f rcvd seq r x = state.marked f seq x (state.received f r (state.acknowledged rcvd seq x))
+stepped f rcvd seq r x = machine.marked f seq x (turn.received f r (turn.acknowledged rcvd seq x))
 
 module _ (f : Feature) (rcvd seq : ℕ) (r : Received) (x : State) where
   -- what the outcome rules give
@@ -81,40 +82,40 @@ module _ (f : Feature) (rcvd seq : ℕ) (r : Received) (x : State) where
   ruled = outcome f (x .max) (x .setting) (x .outcome .oper) r
 
   received-by : (b : Bool) → x .setting .advertise ≡ b →
-      state.received f r (state.acknowledged rcvd seq x) ≡ (if b then after rcvd seq x ruled else state.acknowledged rcvd seq x)
-  unfolding state.received state.acknowledged
-  received-by b a = ap (λ c. if c then after rcvd seq x ruled else state.acknowledged rcvd seq x) a
+      turn.received f r (turn.acknowledged rcvd seq x) ≡ (if b then after rcvd seq x ruled else turn.acknowledged rcvd seq x)
+  unfolding turn.received turn.acknowledged
+  received-by b a = ap (λ c. if c then after rcvd seq x ruled else turn.acknowledged rcvd seq x) a
 
-  stepped-idle : x .setting .advertise ≡ false → stepped f rcvd seq r x ≡ state.acknowledged rcvd seq x
-  unfolding state.acknowledged state.differing
+  stepped-idle : x .setting .advertise ≡ false → stepped f rcvd seq r x ≡ turn.acknowledged rcvd seq x
+  unfolding turn.acknowledged machine.differing
   stepped-idle a =
-      ap (state.marked f seq x) (received-by false a) ∙ marked-by f seq x (state.acknowledged rcvd seq x) false (ap not (same-refl (subTlv f x)))
+      ap (machine.marked f seq x) (received-by false a) ∙ marked-by f seq x (turn.acknowledged rcvd seq x) false (ap not (same-refl (subTlv f x)))
 
   stepped-by : x .setting .advertise ≡ true →
       stepped f rcvd seq r x ≡ (if core.changed (x .outcome) ruled then asked seq (after rcvd seq x ruled) else after rcvd seq x ruled)
-  unfolding state.acknowledged
+  unfolding turn.acknowledged
   stepped-by a =
-      ap (state.marked f seq x) (received-by true a)
+      ap (machine.marked f seq x) (received-by true a)
       ∙ marked-by f seq x (after rcvd seq x ruled) (core.changed (x .outcome) ruled) (changed-octets f x rcvd seq ruled a)
 
   asked-side : (b : Bool) → sideOfState (if b then asked seq (after rcvd seq x ruled) else after rcvd seq x ruled) ≡ sideOfState x
-  unfolding state.acknowledged
+  unfolding turn.acknowledged
   asked-side true = refl
   asked-side false = refl
 
   asked-machine : (b : Bool) →
       machineOf (if b then asked seq (after rcvd seq x ruled) else after rcvd seq x ruled) ≡ core.marked b seq ruled (core.synced rcvd seq (machineOf x))
-  unfolding state.acknowledged core.marked core.synced
+  unfolding turn.acknowledged core.marked core.synced
   asked-machine true = refl
   asked-machine false = refl
 
   pub side-stepped : (b : Bool) → x .setting .advertise ≡ b → sideOfState (stepped f rcvd seq r x) ≡ sideOfState x
-  unfolding state.acknowledged
+  unfolding turn.acknowledged
   side-stepped true a = ap sideOfState (stepped-by a) ∙ asked-side (core.changed (x .outcome) ruled)
   side-stepped false a = ap sideOfState (stepped-idle a)
 
   pub machine-stepped : (b : Bool) → x .setting .advertise ≡ b →
       machineOf (stepped f rcvd seq r x) ≡ core.handled b f (sideOfState x) rcvd seq r (machineOf x)
-  unfolding state.acknowledged core.handled core.synced
+  unfolding turn.acknowledged core.handled core.synced
   machine-stepped true a = ap machineOf (stepped-by a) ∙ asked-machine (core.changed (x .outcome) ruled)
   machine-stepped false a = ap machineOf (stepped-idle a)

@@ -5,15 +5,15 @@ use mathlib.Core.Bool.{Bool, true, false, _&&_}
 use Rattle.octets.specs.Words.{if_then_else_, _is_}
 use Rattle.parameters.specs.declared.Feature.{Feature}
 use Rattle.parameters.specs.declared.Feature.the-variants.{Groups, Flow, Applications}
-use Rattle.feature.specs.State.{next}
+use Rattle.machine.specs.State.{next}
 use Rattle.port.specs.declared.Control.{Control}
 use Rattle.port.specs.declared.Port.{Port}
 use Rattle.port.specs.declared.Released.{Released}
 use Rattle.port.specs.Parts.{featureOf, releasedOf, withControl, release, running}
-use Rattle.events.specs.PortEvents.{withSeq, step5, completed}
-use Rattle.events.specs.PortEvents as events
+use Rattle.sending.specs.Sending.{withSeq, step5, completed}
+use Rattle.sending.specs.Sending as sending
 use Rattle.handling.specs.Handling.{Message, met, exchanged, once, withBroken}
-use Rattle.exchange.specs.Rounds.{Side, sideOf}
+use Rattle.exchange.specs.Expected.{Side, sideOf}
 use Rattle.exchange.proofs.Core as core
 use Rattle.exchange.proofs.Core.{Settings, Core, Offer, offerOf, machineOf}
 use Rattle.exchange.proofs.Steps.{sideOfState, marked-same, stepped, side-stepped, machine-stepped}
@@ -69,9 +69,9 @@ offers-release p Groups = refl
 offers-release p Flow = refl
 offers-release p Applications = refl
 
-pub offers-sent : (p : Port) → Offers p → Offers (events.sent p)
-unfolding events.sent
-offers-sent p h = by (events.raisesSeqNo p)
+pub offers-sent : (p : Port) → Offers p → Offers (sending.sent p)
+unfolding sending.sent
+offers-sent p h = by (sending.raisesSeqNo p)
   where
     by : (b : Bool) → Offers (if b then release (withControl p (withSeq (p .control) (next (p .control .seq)))) else p)
     by true = offers-release (withControl p (withSeq (p .control) (next (p .control .seq))))
@@ -99,8 +99,8 @@ runs-same p q h = λ i. h .admin i && h .receive i && h .transmit i
 unfoldable counted : Bool → Port → Port
 counted b p = if b then release (withControl p (withSeq (p .control) (next (p .control .seq)))) else p
 
-sent-by : (p : Port) → events.sent p ≡ counted (core.raises (view p .feat) (p .control .rcvd) (p .control .seq)) p
-unfolding events.sent events.raisesSeqNo events.unacknowledged core.raises core.pending counted
+sent-by : (p : Port) → sending.sent p ≡ counted (core.raises (view p .feat) (p .control .rcvd) (p .control .seq)) p
+unfolding sending.sent sending.raisesSeqNo sending.unacknowledged core.raises core.pending counted
 sent-by p = refl
 
 view-counted : (b : Bool) (p : Port) →
@@ -142,7 +142,7 @@ kept-counted true p =
 kept-counted false p = record { settings = refl; admin = refl; receive = refl; transmit = refl; several = refl }
 
 pub view-sent : (p : Port) → let up : Bool = core.raises (view p .feat) (p .control .rcvd) (p .control .seq) in
-    view (events.sent p)
+    view (sending.sent p)
     ≡ record {
       oper = p .control .oper;
       seq = core.bump up (p .control .seq);
@@ -182,9 +182,9 @@ kept-marked p b =
       several = refl;
     }
 
-pub kept-sent : (p q : Port) → Kept p q → Kept p (events.sent q)
+pub kept-sent : (p q : Port) → Kept p q → Kept p (sending.sent q)
 kept-sent p q h =
-    let k : Kept q (events.sent q) = rw (sent-by q) (kept-counted (core.raises (view q .feat) (q .control .rcvd) (q .control .seq)) q) in
+    let k : Kept q (sending.sent q) = rw (sent-by q) (kept-counted (core.raises (view q .feat) (q .control .rcvd) (q .control .seq)) q) in
     record {
       settings = k .settings ∙ h .settings;
       admin = k .admin ∙ h .admin;

@@ -10,10 +10,11 @@ use Rattle.feature.specs.Outcome.{lower}
 use Rattle.feature.specs.Outcome as rules
 use Rattle.port.specs.declared.Port.{Port}
 use Rattle.port.specs.Parts.{featureOf, running}
-use Rattle.events.specs.PortEvents.{freshPort}
+use Rattle.sending.specs.Sending.{freshPort}
 use Rattle.port.specs.Settled.{settled}
 use Rattle.port.specs.Sound.{SoundPort}
-use Rattle.exchange.specs.Rounds.{Ends, Round, Lossy, sideOf, rounds, lossyRounds, execAll, Proper, expected}
+use Rattle.rounds.specs.Rounds.{Ends, Round, Lossy, rounds, lossyRounds, execAll, Proper}
+use Rattle.exchange.specs.Expected.{sideOf, expected}
 
 -- "Just started means running, several-neighbours flag off, and the fresh state with its send rule done, whatever the log holds.": the log
 -- is no part of a port

@@ -13,7 +13,8 @@ use Rattle.feature.specs.Outcome as rules
 use Rattle.port.specs.declared.Port.{Port}
 use Rattle.port.specs.Parts.{featureOf}
 use Rattle.port.specs.Settled.{settled}
-use Rattle.exchange.specs.Rounds.{Ends, Round, Lossy, Side, sideOf, rounds, lossyRounds, execAll, Proper, expected}
+use Rattle.rounds.specs.Rounds.{Ends, Round, Lossy, rounds, lossyRounds, execAll, Proper}
+use Rattle.exchange.specs.Expected.{Side, sideOf, expected}
 use Rattle.exchange.specs.Demand3.{Begun}
 use Rattle.exchange.specs.Recorders as recorders
 use Rattle.exchange.specs.Recorders.{Cable, Recorders, Happening, ends, exchanged, Joins}

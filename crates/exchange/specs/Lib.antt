@@ -1,6 +1,4 @@
-pub mod Rounds
-pub mod Round
-pub mod RoundLaws
+pub mod Expected
 pub mod Demand3
 pub mod Recorders
 pub mod Handover

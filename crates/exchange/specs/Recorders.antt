@@ -10,11 +10,11 @@ use Rattle.octets.specs.Words.{_is_}
 use Rattle.notices.specs.Notices.{PortNumber}
 use Rattle.recorder.specs.declared.Recorder.{Recorder}
 use Rattle.recorder.specs.Recorder.{portAt, written, output}
-use Rattle.recorder.specs.Calls as recorder
-use Rattle.recorder.specs.Calls.{Operation, after, replyOf}
-use Rattle.recorder.specs.Rows.{isFrame}
-use Rattle.recorder.specs.Independent.{isEvent}
-use Rattle.exchange.specs.Rounds.{End, left, right, Ends, Call, refused, write, frame, writes, handles, afterWrite, Round, Lossy, rounds, lossyRounds, Answers}
+use Rattle.calls.specs.Calls as recorder
+use Rattle.calls.specs.Calls.{Operation, after, replyOf}
+use Rattle.calls.specs.Rows.{isFrame}
+use Rattle.calls.specs.Independent.{isEvent}
+use Rattle.rounds.specs.Rounds.{End, left, right, Ends, Call, refused, write, frame, writes, handles, afterWrite, Round, Lossy, rounds, lossyRounds, Answers}
 use Rattle.exchange.specs.Demand3.{BothAgreed, BothTruthful, SettledAgreed}
 
 -- a cable joins a port of the left recorder and a port of the right one: their numbers

@@ -5,10 +5,10 @@ use mathlib.Core.Path.{_≡_}
 use mathlib.Core.Bool.{true}
 use mathlib.Core.List.{List, []}
 use lib.ListN.{length}
-use Rattle.tlv.specs.declared.Contents.{Contents}
+use Rattle.contents.specs.declared.Contents.{Contents}
 use Rattle.tlv.specs.declared.Revision.the-variants.{Rev101, Rev10}
-use Rattle.tlv.specs.declared.Reading.the-variants.{Accepted}
-use Rattle.tlv.specs.Layout.{readFrame}
+use Rattle.contents.specs.declared.Reading.the-variants.{Accepted}
+use Rattle.reading.specs.Reading.{readFrame}
 use Rattle.parameters.specs.declared.Feature.the-variants.{Applications}
 use Rattle.feature.specs.declared.Reason.the-variants.{NoPeerYet, Absent}
 use Rattle.port.specs.declared.Port.{Port}
@@ -16,8 +16,8 @@ use Rattle.port.specs.Settled.{settled}
 use Rattle.port.specs.Writing.{releasedTlv, frame}
 use Rattle.recorder.specs.declared.Recorder.{Recorder}
 use Rattle.recorder.specs.Recorder.{portAt}
-use Rattle.recorder.specs.Sound.{Reachable}
-use Rattle.exchange.specs.Rounds.{Ends, Round, Lossy, rounds, lossyRounds, execAll, Proper}
+use Rattle.calls.specs.Sound.{Reachable}
+use Rattle.rounds.specs.Rounds.{Ends, Round, Lossy, rounds, lossyRounds, execAll, Proper}
 use Rattle.exchange.specs.Demand3.{Agreed}
 
 -- an end that started as `own`, 1.01, beside one that started as `peer`, 1.0, and whose port is now p: "the 1.01 end reads "absent" for applications if

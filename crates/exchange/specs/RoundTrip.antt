@@ -6,15 +6,16 @@ use mathlib.Core.Path.{_≡_}
 use mathlib.Core.Bool.{Bool, true, false}
 use mathlib.Core.List.{List}
 use lib.ListN.{take}
-use Rattle.tlv.specs.declared.Contents.{Contents}
+use Rattle.contents.specs.declared.Contents.{Contents}
 use Rattle.tlv.specs.declared.Revision.{Revision}
-use Rattle.tlv.specs.declared.Reading.the-variants.{Accepted}
-use Rattle.tlv.specs.Revisions.{hasApplications, readFor}
+use Rattle.contents.specs.declared.Reading.the-variants.{Accepted}
+use Rattle.tlv.specs.Revisions.{hasApplications}
+use Rattle.reading.specs.Revisions.{readFor}
 use Rattle.parameters.specs.declared.Feature.{Feature}
 use Rattle.parameters.specs.Parameters.{content}
 use Rattle.feature.specs.declared.Release.{Release}
 use Rattle.feature.specs.Outcome.{Received, operOf, maxOf, enableOf, willingOf, errorOf, parametersOf}
-use Rattle.feature.specs.State.{value}
+use Rattle.machine.specs.State.{value}
 use Rattle.port.specs.declared.Port.{Port}
 use Rattle.port.specs.declared.Written.the-variants as wrote
 use Rattle.port.specs.Parts.{featureOf, releasedOf, three}
@@ -24,7 +25,7 @@ use Rattle.handling.specs.Handling.{message}
 use Rattle.recorder.specs.declared.Recorder.{Recorder}
 use Rattle.recorder.specs.Recorder.{portAt}
 use Rattle.recorder.specs.Recorder as recorder
-use Rattle.recorder.specs.Sound.{Reachable}
+use Rattle.calls.specs.Sound.{Reachable}
 
 -- 02, E11: "Under 1.0 type 4 is skipped like any unknown type": the features that a reader of a revision has
 abbrev pub knows : Revision → Feature → Bool

@@ -11,12 +11,12 @@ use Rattle.port.specs.declared.Flag.{Flag}
 use Rattle.port.specs.declared.Flag.the-variants.{Several}
 use Rattle.port.specs.declared.Versions.{Versions}
 use Rattle.port.specs.Parts.{running}
-use Rattle.events.specs.PortEvents.{freshPort}
+use Rattle.sending.specs.Sending.{freshPort}
 use Rattle.recorder.specs.declared.Recorder.{Recorder}
 use Rattle.recorder.specs.Recorder.{portAt}
-use Rattle.recorder.specs.Calls.{create, afterAt, replyAt}
-use Rattle.recorder.specs.Calls as recorder
-use Rattle.recorder.specs.Sound.{InRange, Reachable}
+use Rattle.calls.specs.Calls.{create, afterAt, replyAt}
+use Rattle.calls.specs.Calls as recorder
+use Rattle.calls.specs.Sound.{InRange, Reachable}
 use Rattle.exchange.specs.Demand3.{JustStarted}
 
 -- port n of a recorder, with one neighbour, starts anew

@@ -10,9 +10,9 @@ use Rattle.octets.specs.Words.{if_then_else_, _below_, _atmost_, _is_}
 use Rattle.octets.specs.Laws.{and-left, and-right}
 use Rattle.parameters.specs.declared.Feature.{Feature}
 use Rattle.parameters.specs.declared.Feature.the-variants.{Groups, Flow, Applications}
-use Rattle.parameters.specs.AllLaws.{both-true, all-at, all-of, and-true}
-use Rattle.parameters.specs.OursLaws.{all-own}
-use Rattle.parameters.specs.ApplicationsLaws.{Entries, entries-told, entries-valid}
+use Rattle.applications.specs.AllLaws.{both-true, all-at, all-of, and-true}
+use Rattle.applications.specs.OursLaws.{all-own}
+use Rattle.applications.specs.ApplicationsLaws.{Entries, entries-told, entries-valid}
 use Rattle.parameters.specs.Parameters.{goodHalves, percentages, groupsNumber, sum, validGroups, flowNumber, mask, validFlow, ones, entryCount, selectorOf, allFrom, newName, isOurs, ours, valid, localValues, validLocal}
 use Rattle.faults.specs.declared.Fault.{Fault}
 use Rattle.faults.specs.declared.Fault.the-variants as Fault

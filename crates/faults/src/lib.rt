@@ -102,7 +102,7 @@ fn foreign_entry(p: &[u8]) -> usize
     let n = p.len() / 6;
     let mut i: usize = 0;
     while i < n {
-        if !parameters::applications::is_ours(p, i) {
+        if !applications::is_ours(p, i) {
             return i;
         }
         i += 1;
@@ -117,7 +117,7 @@ fn first_entry(p: &[u8], i: usize) -> usize
 {
     let mut j: usize = 0;
     while j < i {
-        if parameters::applications::same_name(p, i, p, j) {
+        if applications::same_name(p, i, p, j) {
             return j;
         }
         j += 1;
@@ -147,7 +147,7 @@ fn high_selector(p: &[u8]) -> usize
     let n = p.len() / 6;
     let mut i: usize = 0;
     while i < n {
-        if 2 <= parameters::applications::selector_of(p, i) {
+        if 2 <= applications::selector_of(p, i) {
             return i;
         }
         i += 1;
@@ -176,7 +176,7 @@ fn applications(p: &[u8]) -> Fault
     }
     let high = high_selector(p);
     if high < n {
-        return Fault::Selector(high + 1, parameters::applications::selector_of(p, high));
+        return Fault::Selector(high + 1, applications::selector_of(p, high));
     }
     Fault::None
 }

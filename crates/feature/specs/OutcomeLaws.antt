@@ -10,10 +10,10 @@ use borrow.Author.Tests.{not-true, not-false, lt-ltb, le-ltb, eq-eqb, ne-eqb}
 use Rattle.parameters.specs.declared.Feature.{Feature}
 use Rattle.parameters.specs.declared.Parameters.{Parameters}
 use Rattle.parameters.specs.Parameters.{valid, compatible, content, ours, stored, noParameters}
-use Rattle.parameters.specs.FeatureLaws.{ours-length}
+use Rattle.config.specs.FeatureLaws.{ours-length}
 use Rattle.parameters.specs.StoringLaws.{content-stored}
 use Rattle.parameters.specs.WritingLaws.{content-of}
-use Rattle.parameters.specs.OursLaws.{compatible-ours}
+use Rattle.applications.specs.OursLaws.{compatible-ours}
 use Rattle.feature.specs.declared.Reason.the-variants.{Absent, Duplicate, Bad, Waiting, Disabled, Agreed, NotCompatible}
 use Rattle.feature.specs.declared.Setting.{Setting}
 use Rattle.feature.specs.declared.Peer.{Peer}

@@ -1,13 +1,11 @@
-// One feature: its setting, its state and the rules that all three features share.
+// One feature: its setting, its state by their parts, and the outcome rules that all three features share.
 ghost use mathlib.Core.Path.{_≡_};
 ghost use Rattle.parameters.specs.Parameters.{content, noParameters};
 ghost use Rattle.feature.specs.Reasons.{reasonNumber};
-ghost use Rattle.feature.specs.Outcome.{Received, configuration, lower, outcome, parametersOf, withPeer, withoutPeer};
+ghost use Rattle.feature.specs.Outcome.{configuration, lower, outcome, parametersOf, withPeer, withoutPeer};
 ghost use Rattle.feature.specs.OutcomeLaws.{decided, flagsOf, outcomeOf, peerOf, judgedOn, switchesOf};
 use parameters::Feature;
 use parameters::Parameters;
-
-pub mod steps;
 
 // Why a feature is in its state.
 pub enum Reason {
@@ -209,7 +207,7 @@ fn judge(f: Feature, s: Switches, own: &[u8], oper: u8, p: Flags, theirs: &[u8])
     if s.willing != p.willing {
         return with_peer(Reason::Agreed, oper, false, !p.error, p, s.willing);
     }
-    if parameters::compatible(f, own, theirs) {
+    if config::compatible(f, own, theirs) {
         return with_peer(Reason::Agreed, oper, false, !p.error, p, false);
     }
     with_peer(Reason::NotCompatible, oper, true, false, p, false)
@@ -235,7 +233,7 @@ pub fn judge_anew(
     if w.willing != p.willing {
         return with_peer(Reason::Agreed, oper, false, !p.error, p, w.willing);
     }
-    if parameters::compatible(f, own, theirs) {
+    if config::compatible(f, own, theirs) {
         return with_peer(Reason::Agreed, oper, false, !p.error, p, false);
     }
     with_peer(Reason::NotCompatible, oper, true, false, p, false)
@@ -311,7 +309,7 @@ pub fn decide(
     if theirs != low {
         return without_peer(Reason::Waiting, low, false);
     }
-    if !parameters::valid(f, octets::from(value, 4)) {
+    if !config::valid(f, octets::from(value, 4)) {
         return without_peer(Reason::Bad, low, true);
     }
     judge_value(f, s, desired, low, value)

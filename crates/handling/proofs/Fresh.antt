@@ -11,11 +11,11 @@ use Rattle.feature.specs.declared.Reason.the-variants.{NoPeerYet, NotAdvertised
 use Rattle.feature.specs.declared.Setting.{Setting}
 use Rattle.feature.specs.declared.State.{State}
 use Rattle.feature.specs.Outcome.{noPeer, withoutPeer}
-use Rattle.feature.specs.State.{next, freshAt, fresh, stopped, present}
+use Rattle.machine.specs.State.{next, freshAt, fresh, stopped, present}
 use Rattle.port.specs.declared.Control.{Control}
 use Rattle.port.specs.declared.Port.{Port}
 use Rattle.port.specs.Parts.{featureOf, withControl, withFeatures, presents, release, running}
-use Rattle.events.specs.PortEvents.{withSeq, raisesSeqNo, sent, freshControl, freshParts, freshPort}
+use Rattle.sending.specs.Sending.{withSeq, raisesSeqNo, sent, freshControl, freshParts, freshPort}
 use Rattle.port.specs.Sound.{SoundSetting, SoundState, SoundRelease, NoApplications, SoundPort}
 use Rattle.tlv.specs.Revisions.{hasApplications}
 use Rattle.handling.proofs.Soundness.{port-sound, present-sound, sent-sound}

@@ -12,14 +12,14 @@ use borrow.Author.Tests.{ltb-true, ltb-false}
 use Rattle.octets.specs.Words.{if_then_else_, _below_, _is_}
 use Rattle.octets.specs.Octets.{at, number4}
 use Rattle.octets.specs.Laws.{and-left}
-use Rattle.tlv.specs.declared.Contents.{Contents}
-use Rattle.tlv.specs.Layout.{valueOf}
+use Rattle.contents.specs.declared.Contents.{Contents}
+use Rattle.contents.specs.Contents.{valueOf}
 use Rattle.tlv.specs.Revisions.{hasApplications}
 use Rattle.parameters.specs.declared.Feature.{Feature}
 use Rattle.parameters.specs.declared.Feature.the-variants.{Groups, Flow, Applications}
 use Rattle.parameters.specs.Parameters.{valid, compatible, ours, stored, content}
-use Rattle.parameters.specs.FeatureLaws.{ours-length, valid-ours}
-use Rattle.parameters.specs.OursLaws.{ours-ours}
+use Rattle.config.specs.FeatureLaws.{ours-length, valid-ours}
+use Rattle.applications.specs.OursLaws.{ours-ours}
 use Rattle.parameters.specs.StoringLaws.{content-stored}
 use Rattle.feature.specs.declared.Reason.{Reason}
 use Rattle.feature.specs.declared.Reason.the-variants.{Absent, Duplicate, Bad, Waiting, ControlTwice}
@@ -29,10 +29,11 @@ use Rattle.feature.specs.declared.Outcome.{Outcome}
 use Rattle.feature.specs.declared.State.{State}
 use Rattle.feature.specs.Outcome.{Received, operOf, maxOf, parametersOf, configuration, lower, heldPeer, withoutPeer, judged, outcome}
 use Rattle.feature.specs.declared.Release.{Release}
-use Rattle.feature.specs.State.{next, withOutcome, present, controlTwice, acknowledged, received, changed, marked, settingOf}
+use Rattle.machine.specs.State.{next, withOutcome, present, changed, marked, settingOf}
+use Rattle.turn.specs.Turn.{controlTwice, acknowledged, received}
 use Rattle.port.specs.declared.Port.{Port}
 use Rattle.port.specs.Parts.{switchedOff, featureOf, releasedOf, withControl, release}
-use Rattle.events.specs.PortEvents.{withSeq, raisesSeqNo, sent, step5, completed}
+use Rattle.sending.specs.Sending.{withSeq, raisesSeqNo, sent, step5, completed}
 use Rattle.handling.specs.Handling.{Message, message, twice, met, exchanged, once, steps1to4}
 use Rattle.port.specs.Sound.{SoundParameters, SoundSetting, SoundPeer, adoptsBy, SoundState, SoundControl, SoundRelease, NoApplications, SoundPort}
 use Rattle.feature.specs.RulesLaws.{judgedBy, judged-by, judged-oper, judged-peer}

@@ -10,21 +10,22 @@ use Rattle.octets.specs.Laws.{and-left, and-right}
 use Rattle.tlv.specs.declared.Refusal.{Refusal}
 use Rattle.tlv.specs.declared.Refusal.the-variants.{NotRunning, SeveralNeighbours, InvalidSetting, UnknownFeature}
 use Rattle.tlv.specs.Refusals.{refusalNumber}
-use Rattle.tlv.specs.declared.Contents.{Contents}
-use Rattle.tlv.specs.declared.Reading.{Reading}
-use Rattle.tlv.specs.declared.Reading.the-variants.{Refused, Accepted}
-use Rattle.tlv.specs.Revisions.{hasApplications, readFor}
+use Rattle.contents.specs.declared.Contents.{Contents}
+use Rattle.contents.specs.declared.Reading.{Reading}
+use Rattle.contents.specs.declared.Reading.the-variants.{Refused, Accepted}
+use Rattle.tlv.specs.Revisions.{hasApplications}
+use Rattle.reading.specs.Revisions.{readFor}
 use Rattle.parameters.specs.declared.Feature.{Feature}
 use Rattle.parameters.specs.declared.Feature.the-variants.{Groups, Flow, Applications}
 use Rattle.parameters.specs.Parameters.{goodHalves, sum, validGroups, validFlow, allFrom, fewAndNew, validApplications, valid, ones, localValues, validLocal, oursOf, ours, stored, content}
-use Rattle.parameters.specs.FeatureLaws.{ours-length, local-ours}
+use Rattle.config.specs.FeatureLaws.{ours-length, local-ours}
 use Rattle.parameters.specs.StoringLaws.{content-stored}
 use Rattle.feature.specs.declared.Setting.{Setting}
 use Rattle.feature.specs.declared.Switches.{Switches}
 use Rattle.feature.specs.declared.Outcome.{Outcome}
 use Rattle.feature.specs.declared.State.{State}
 use Rattle.feature.specs.Outcome.{lower, judged}
-use Rattle.feature.specs.State.{next, freshAt, fresh, stopped, settingOf, sameSetting, judgedAgain, reset}
+use Rattle.machine.specs.State.{next, freshAt, fresh, stopped, settingOf, sameSetting, judgedAgain, reset}
 use Rattle.port.specs.declared.Flag.{Flag}
 use Rattle.port.specs.declared.Flag.the-variants.{Admin, Receive, Transmit, Several}
 use Rattle.port.specs.declared.Port.{Port}
@@ -32,7 +33,11 @@ use Rattle.port.specs.declared.Raised.{Raised}
 use Rattle.port.specs.declared.Raised.the-variants as raised
 use Rattle.port.specs.declared.Versions.{Versions}
 use Rattle.port.specs.Parts.{switchedOff, featureOf, maxOf, withControl, withFeatures, presents, flagOf, withFlag, running}
-use Rattle.events.specs.PortEvents.{sent, freshControl, freshParts, freshPort, event, unchanged, refused, started, createdPort, settingsValid, restarts, flagNotice, flagSet, flagged, peerGone, step5, completed, withFeature, withSetting, settingChanged, setTo, changedFeature, changedApplications, changedSetting, blankParameters, blankState, blankPort}
+use Rattle.sending.specs.Sending.{sent, freshControl, freshParts, freshPort, step5, completed}
+use Rattle.events.specs.PortEvents.{event, unchanged, refused}
+use Rattle.creation.specs.Creation.{started, createdPort, settingsValid, blankParameters, blankState, blankPort}
+use Rattle.flags.specs.Flags.{restarts, flagNotice, flagSet, flagged, peerGone}
+use Rattle.changes.specs.Changes.{withFeature, withSetting, settingChanged, setTo, changedFeature, changedApplications, changedSetting}
 use Rattle.handling.specs.Handling.{Message, message, twice, met, exchanged, once, steps1to4, frameEvent, accepted, breaks, withBroken, rejected, given, handled}
 use Rattle.port.specs.Sound.{SoundSetting, SoundState, SoundPort, InStep}
 use Rattle.handling.proofs.Tests.{beq-not, each-true}

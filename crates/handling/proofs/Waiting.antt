@@ -9,19 +9,21 @@ use borrow.Author.Tests.{not-false, eq-eqb, eqb-true}
 use Rattle.octets.specs.Words.{if_then_else_, _below_, _is_}
 use Rattle.octets.specs.Octets.{same}
 use Rattle.octets.specs.Laws.{and-right, same-is}
-use Rattle.tlv.specs.declared.Contents.{Contents}
+use Rattle.contents.specs.declared.Contents.{Contents}
 use Rattle.parameters.specs.declared.Feature.{Feature}
 use Rattle.parameters.specs.declared.Feature.the-variants.{Groups, Flow, Applications}
 use Rattle.feature.specs.declared.Setting.{Setting}
 use Rattle.feature.specs.declared.Release.{Release}
 use Rattle.feature.specs.declared.State.{State}
 use Rattle.feature.specs.Outcome.{Received, lower, outcome}
-use Rattle.feature.specs.State.{next, freshAt, fresh, stopped, withOutcome, present, releaseTlv, subTlv, controlTwice, acknowledged, received, differing, changed, marked, judgedAgain, reset}
-use Rattle.feature.specs.StateLaws.{changed-shown}
+use Rattle.machine.specs.State.{next, freshAt, fresh, stopped, withOutcome, present, releaseTlv, subTlv, differing, changed, marked, judgedAgain, reset}
+use Rattle.turn.specs.Turn.{controlTwice, acknowledged, received}
+use Rattle.machine.specs.StateLaws.{changed-shown}
 use Rattle.port.specs.declared.Control.{Control}
 use Rattle.port.specs.declared.Port.{Port}
 use Rattle.port.specs.Parts.{featureOf, releasedOf, withControl, withFeatures, release, some, running}
-use Rattle.events.specs.PortEvents.{withSeq, unacknowledged, raisesSeqNo, sent, freshParts, freshPort, step5, completed, withFeature}
+use Rattle.sending.specs.Sending.{withSeq, unacknowledged, raisesSeqNo, sent, freshParts, freshPort, step5, completed}
+use Rattle.changes.specs.Changes.{withFeature}
 use Rattle.port.specs.Sound.{InStep}
 use Rattle.handling.specs.Handling.{Message, message, twice, met, exchanged, once, steps1to4}
 use Rattle.handling.proofs.Tests.{or-cases, some-false}

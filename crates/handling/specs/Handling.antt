@@ -7,15 +7,15 @@ use Rattle.octets.specs.Octets.{at, number4}
 use Rattle.tlv.specs.declared.Refusal.{Refusal}
 use Rattle.tlv.specs.declared.Refusal.the-variants as refusal
 use Rattle.tlv.specs.Refusals.{refusalNumber}
-use Rattle.tlv.specs.declared.Contents.{Contents}
-use Rattle.tlv.specs.declared.Reading.{Reading}
-use Rattle.tlv.specs.declared.Reading.the-variants.{Refused, Accepted}
-use Rattle.tlv.specs.Layout.{valueOf}
-use Rattle.tlv.specs.Revisions.{readFor}
+use Rattle.contents.specs.declared.Contents.{Contents}
+use Rattle.contents.specs.declared.Reading.{Reading}
+use Rattle.contents.specs.declared.Reading.the-variants.{Refused, Accepted}
+use Rattle.contents.specs.Contents.{valueOf}
+use Rattle.reading.specs.Revisions.{readFor}
 use Rattle.parameters.specs.declared.Feature.{Feature}
 use Rattle.parameters.specs.declared.Feature.the-variants.{Groups, Flow, Applications}
 use Rattle.feature.specs.Outcome.{Received, lower}
-use Rattle.feature.specs.State.{controlTwice, acknowledged, received}
+use Rattle.turn.specs.Turn.{controlTwice, acknowledged, received}
 use Rattle.notices.specs.declared.Kind.{Kind}
 use Rattle.notices.specs.declared.Kind.the-variants as kind
 use Rattle.port.specs.declared.Control.{Control}
@@ -26,7 +26,8 @@ use Rattle.port.specs.declared.Notices.{Notices}
 use Rattle.port.specs.declared.Raised.{Raised}
 use Rattle.port.specs.declared.Raised.the-variants as raised
 use Rattle.port.specs.Parts.{featureOf, withControl, withFeatures, running}
-use Rattle.events.specs.PortEvents.{event, completed}
+use Rattle.events.specs.PortEvents.{event}
+use Rattle.sending.specs.Sending.{completed}
 
 -- What a frame with one readable control has: its versions, its numbers, and the three features.
 pub record Message : Type 0 where

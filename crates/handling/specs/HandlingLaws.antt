@@ -10,26 +10,27 @@ use lib.ListN.{length, take, drop}
 use borrow.Author.Tests.{not-false, lt-ltb, le-ltb, eq-eqb, ne-eqb}
 use Rattle.octets.specs.Words.{if_then_else_, _below_, _is_}
 use Rattle.octets.specs.Octets.{at, number4, same}
-use Rattle.tlv.specs.declared.Contents.{Contents}
-use Rattle.tlv.specs.declared.Found.{Found}
+use Rattle.contents.specs.declared.Contents.{Contents}
+use Rattle.contents.specs.declared.Found.{Found}
 use Rattle.tlv.specs.declared.Refusal.{Refusal}
 use Rattle.tlv.specs.declared.Refusal.the-variants.{NotRunning, SeveralNeighbours}
-use Rattle.tlv.specs.declared.Reading.{Reading}
-use Rattle.tlv.specs.declared.Reading.the-variants.{Refused, Accepted}
+use Rattle.contents.specs.declared.Reading.{Reading}
+use Rattle.contents.specs.declared.Reading.the-variants.{Refused, Accepted}
 use Rattle.tlv.specs.Refusals.{refusalNumber}
-use Rattle.tlv.specs.Revisions.{readFor}
-use Rattle.tlv.specs.Promises.{Inside, ReadsFor}
-use Rattle.tlv.specs.Layout.{valueOf}
+use Rattle.reading.specs.Revisions.{readFor}
+use Rattle.reading.specs.Promises.{Inside, ReadsFor}
+use Rattle.contents.specs.Contents.{valueOf}
 use Rattle.parameters.specs.declared.Feature.{Feature}
 use Rattle.parameters.specs.declared.Feature.the-variants.{Groups, Flow, Applications}
 use Rattle.parameters.specs.declared.Parameters.{Parameters}
 use Rattle.feature.specs.declared.State.{State}
-use Rattle.feature.specs.declared.steps.Course.{Course}
-use Rattle.feature.specs.declared.steps.Course.the-variants.{Twice, OtherVersion, Exchange}
-use Rattle.feature.specs.declared.steps.Turn.{Turn}
+use Rattle.turn.specs.declared.Course.{Course}
+use Rattle.turn.specs.declared.Course.the-variants.{Twice, OtherVersion, Exchange}
+use Rattle.turn.specs.declared.Turn.{Turn}
 use Rattle.feature.specs.Outcome.{lower}
-use Rattle.feature.specs.State.{next, controlTwice, acknowledged, received, marked}
-use Rattle.feature.specs.TurnLaws.{Same, after, turnOf, peerParametersAfter, renewed, after-same, renewed-after}
+use Rattle.machine.specs.State.{next, marked}
+use Rattle.turn.specs.Turn.{controlTwice, acknowledged, received}
+use Rattle.turn.specs.TurnLaws.{Same, after, turnOf, peerParametersAfter, renewed, after-same, renewed-after}
 use Rattle.handling.specs.declared.Heard.{Heard}
 use Rattle.handling.specs.declared.Change.{Change}
 use Rattle.port.specs.declared.Control.{Control}
@@ -45,8 +46,9 @@ use Rattle.notices.specs.declared.Kind.{Kind}
 use Rattle.notices.specs.declared.Kind.the-variants.{ControlError, DuplicateControl}
 use Rattle.port.specs.Parts.{featureOf, three, withControl, withFeatures, presents, withReleased, release, some, running}
 use Rattle.port.specs.Writing.{controlValue, asks}
-use Rattle.events.specs.EventLaws.{counted, sent-counted}
-use Rattle.events.specs.PortEvents.{unacknowledged, raisesSeqNo, step5, completed, becomes, raises}
+use Rattle.sending.specs.SendingLaws.{counted, sent-counted}
+use Rattle.sending.specs.Sending.{unacknowledged, raisesSeqNo, step5, completed}
+use Rattle.events.specs.PortEvents.{becomes, raises}
 use Rattle.port.specs.WritingLaws.{controls-raised, asks-control, asks-raised}
 use Rattle.handling.specs.Handling.{Message, hasOf, message, seenTwice, twice, met, numbered, exchanged, once, steps1to4, newlyMarked, markNotice, frameEvent, accepted, breaks, withBroken, alone, rejected, given, handled}
 

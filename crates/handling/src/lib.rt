@@ -4,18 +4,19 @@ ghost use mathlib.Core.Path.{_≡_};
 ghost use mathlib.Core.Bool.{true};
 ghost use Prim.Native.Nat.{_+_, _≤_};
 ghost use lib.ListN.{length};
-ghost use Rattle.tlv.specs.declared.Reading.the-variants.{Accepted};
-ghost use Rattle.tlv.specs.Layout.{valueOf};
-ghost use Rattle.tlv.specs.Promises.{Inside};
-ghost use Rattle.feature.specs.TurnLaws.{peerParametersAfter};
+ghost use Rattle.contents.specs.declared.Reading.the-variants.{Accepted};
+ghost use Rattle.contents.specs.Contents.{valueOf};
+ghost use Rattle.reading.specs.Promises.{Inside};
+ghost use Rattle.turn.specs.TurnLaws.{peerParametersAfter};
 ghost use Rattle.parameters.specs.declared.Feature.the-variants.{Groups, Flow, Applications};
 ghost use Rattle.port.specs.Parts.{release, running};
 ghost use Rattle.events.specs.PortEvents.{becomes};
 ghost use Rattle.handling.specs.Handling.{newlyMarked, breaks, rejected, handled};
 ghost use Rattle.handling.specs.HandlingLaws.{Admits, afterIn, changeOf, heardOf, unreleased, waitsBy};
+use contents::Contents;
+use contents::Found;
+use contents::Reading;
 use feature::State;
-use feature::steps::Course;
-use feature::steps::Turn;
 use notices::Kind;
 use parameters::Feature;
 use parameters::Parameters;
@@ -25,10 +26,9 @@ use port::Event;
 use port::Notices;
 use port::Port;
 use port::Raised;
-use tlv::Contents;
-use tlv::Found;
-use tlv::Reading;
 use tlv::Refusal;
+use turn::Course;
+use turn::Turn;
 
 // What a frame changes in a port, but for the parameters held of the peer.
 struct Change {
@@ -53,7 +53,7 @@ pub fn admit(p: Port, s: &[u8]) -> Reading
         return Reading::Refused(Refusal::SeveralNeighbours, 0);
     }
     let revision = p.revision;
-    tlv::read_for(revision, s)
+    reading::read_for(revision, s)
 }
 
 // A sub-TLV's value, as a part of the frame. Here and in `hear` the `requires` is what `admit` ensures of a frame that is accepted.
@@ -127,7 +127,7 @@ fn turn_of_groups(x: State, h: Heard, seq: u32, s: &[u8], found: Found) -> Turn
         found.count,
         value,
     );
-    feature::steps::handle(
+    turn::handle(
         Feature::Groups,
         x,
         course,
@@ -158,7 +158,7 @@ fn turn_of_flow(x: State, h: Heard, seq: u32, s: &[u8], found: Found) -> Turn
         found.count,
         value,
     );
-    feature::steps::handle(Feature::Flow, x, course, k.rcvd, seq, found.count, value, d)
+    turn::handle(Feature::Flow, x, course, k.rcvd, seq, found.count, value, d)
 }
 
 fn turn_of_applications(x: State, h: Heard, seq: u32, s: &[u8], found: Found) -> Turn
@@ -180,7 +180,7 @@ fn turn_of_applications(x: State, h: Heard, seq: u32, s: &[u8], found: Found) ->
         found.count,
         value,
     );
-    feature::steps::handle(
+    turn::handle(
         Feature::Applications,
         x,
         course,
@@ -235,8 +235,8 @@ fn decide(p: Port, s: &[u8], c: Contents) -> Change
     let a = turn_of_applications(p.applications, h, old.seq, s, c.applications);
     let g = turn_of_groups(p.groups, h, old.seq, s, c.groups);
     let w = turn_of_flow(p.flow, h, old.seq, s, c.flow);
-    let up = events::raises_seq(h.control, waits(g) | waits(w) | waits(a));
-    let control = events::count(h.control, up);
+    let up = sending::raises_seq(h.control, waits(g) | waits(w) | waits(a));
+    let control = sending::count(h.control, up);
     let same = port::writing::same_control(old, control);
     let x = newly_marked(Kind::DuplicateControl, old.duplicate, control.duplicate);
     let y = notice(p.groups, g);
@@ -272,7 +272,7 @@ fn peer_parameters(
     ensures { λ r. ⌜ r ≡ peerParametersAfter course f (valueOf (now (s .entry)) found) (t .decision .held) x ⌝ }
 {
     let d = t.decision;
-    feature::steps::peer_parameters_after(f, x, course, d.held, part(s, found))
+    turn::peer_parameters_after(f, x, course, d.held, part(s, found))
 }
 
 // The port with all features released (02, E5).
@@ -280,7 +280,7 @@ fn release(p: Port) -> Port
     ensures { λ r. ⌜ r ≡ release p ⌝ }
 {
     let mut next = p;
-    next.released = events::presents(p.groups, p.flow, p.applications);
+    next.released = sending::presents(p.groups, p.flow, p.applications);
     next
 }
 
@@ -303,9 +303,9 @@ fn apply(p: Port, k: Change, s: &[u8], c: Contents) -> Port
     let x = peer_parameters(Feature::Groups, p.groups, course, k.groups, s, c.groups);
     let mut next = p;
     next.control = control;
-    next.groups = feature::steps::renew(p.groups, k.groups, x);
-    next.flow = feature::steps::renew(p.flow, k.flow, y);
-    next.applications = feature::steps::renew(p.applications, k.applications, z);
+    next.groups = turn::renew(p.groups, k.groups, x);
+    next.flow = turn::renew(p.flow, k.flow, y);
+    next.applications = turn::renew(p.applications, k.applications, z);
     next
 }
 

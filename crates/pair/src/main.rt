@@ -1,13 +1,13 @@
 // Will two ends agree? Reads the settings of A and of B, runs rounds until both ends are settled, and reports (docs/FORMATS.md).
 use console::Lines;
 use console::arguments::Source;
-use console::settings::Settings;
-use exchange::Pair;
 use feature::State;
 use notices::Log;
 use parameters::Feature;
 use parameters::Parameters;
 use port::Port;
+use rounds::Pair;
+use settings::Settings;
 use tlv::Revision;
 
 // Six rounds are always enough (02, E5; exchange/specs/Demand3.antt).
@@ -29,7 +29,7 @@ struct Ends {
 fn round(a: Port, b: Port) -> Pair {
     let mut from_a = [0; 147];
     let mut from_b = [0; 147];
-    exchange::round(a, b, &mut from_a, &mut from_b)
+    rounds::round(a, b, &mut from_a, &mut from_b)
 }
 
 // The ends after one more round; what each raised stands in its log.
@@ -61,7 +61,7 @@ fn settle(a: Port, b: Port) -> Ends {
         rounds: 0,
     };
     let mut rounds: u64 = 0;
-    while rounds < ROUNDS && !exchange::settled(ends.a, ends.b) {
+    while rounds < ROUNDS && !rounds::settled(ends.a, ends.b) {
         ends = behind_round(ends);
         rounds += 1;
     }
@@ -93,7 +93,7 @@ fn silent_ends(a: bool, b: bool) -> u64 {
 fn is_compatible(f: Feature, p: Parameters, q: Parameters) -> bool {
     let x = octets::first(&p.octets, octets::wide(p.length));
     let y = octets::first(&q.octets, octets::wide(q.length));
-    parameters::compatible(f, x, y)
+    config::compatible(f, x, y)
 }
 
 fn fit(silent: u64, compatible: bool) -> u64 {
@@ -165,7 +165,7 @@ fn first_line(out: &mut [u8], rounds: u64, g: Told, w: Told, a: Told) -> usize {
         a.silent,
         a.fit,
     ];
-    report::forms::put(
+    printing::forms::put(
         out,
         0,
         b"[agreed|not agreed|not exchanged] after # rounds[|:|:][| groups][| flow][| applications][|; not exchanged:][| groups at A| groups at B| groups at A and B][| (does not fit)| (fits)][|,][| flow at A| flow at B| flow at A and B][| (does not fit)| (fits)][|,][| applications at A| applications at B| applications at A and B][| (does not fit)| (fits)]\n",
@@ -185,8 +185,8 @@ fn compare(out: &mut [u8], rounds: u64, a: Port, b: Port) -> usize {
 
 fn control_line(out: &mut [u8], at: usize, name: &[u8], version: u8, r: Revision) -> usize {
     let numbers = [version as u64, report::states::named(r)];
-    let a = report::text(out, at, name);
-    report::forms::put(out, a, b"control version #[| revision 1.0]\n", &numbers)
+    let a = printing::text(out, at, name);
+    printing::forms::put(out, a, b"control version #[| revision 1.0]\n", &numbers)
 }
 
 // The line on applications, which an end of Rev 1.0 does not have.
@@ -217,18 +217,12 @@ fn report_on(out: &mut [u8], e: Ends) -> usize {
 
 // Creates both ends, lets them exchange frames, and reports; the place behind the report.
 fn compared(out: &mut [u8], x: Settings, y: Settings) -> usize {
-    report_on(
-        out,
-        settle(
-            console::settings::port_with(x),
-            console::settings::port_with(y),
-        ),
-    )
+    report_on(out, settle(settings::port_with(x), settings::port_with(y)))
 }
 
 // Reads both ends, and gives the place behind what is to be said, 0 where a read has failed.
 fn said(input: &mut [u8], out: &mut [u8], l: Lines) -> usize {
-    let s = console::settings::read_pair(input, out, l, false);
+    let s = settings::read_pair(input, out, l, false);
     if !s.good {
         return s.at;
     }

@@ -1,14 +1,14 @@
 -- Laws of flow control, for `flow`. Assumes nothing.
 use Prim.Native.Nat.{ℕ, suc, _+_, _-_, _/_, _%_, _≤_, _<_}
 use native.Mathlib.Omega.{arith}
-use mathlib.Core.Path.{_≡_}
+use mathlib.Core.Path.{_≡_, refl}
 use mathlib.Core.Bool.{false}
 use mathlib.Core.List.{List}
 use lib.ListN.{length}
 use borrow.Author.Tests.{eq-eqb, ne-eqb}
-use Rattle.octets.specs.Words.{_atmost_}
+use Rattle.octets.specs.Words.{_atmost_, _is_}
 use Rattle.parameters.specs.declared.Feature.the-variants.{Flow}
-use Rattle.parameters.specs.Parameters.{ones, flowNumber, validFlow, valid}
+use Rattle.parameters.specs.Parameters.{mask, flowNumber, validFlow, valid, ones, localValues, compatible}
 
 module _ (p : List ℕ) where
   pub flow-length : (length p ≡ 2 → ⊥) → false ≡ valid Flow p
@@ -18,6 +18,14 @@ module _ (p : List ℕ) where
   pub flow-number : length p ≡ 2 → flowNumber p atmost 8 ≡ valid Flow p
   unfolding valid validFlow
   flow-number h = simp (eq-eqb (length p) 2 h)
+
+  pub flow-local : {m k n : ℕ} → m ≡ mask p → k ≡ ones 8 m → n ≡ flowNumber p → k atmost n ≡ localValues Flow p
+  unfolding localValues
+  flow-local em ek en = rw (en, ek, em) refl
+
+pub flow-compatible : (p q : List ℕ) {a b : ℕ} → a ≡ mask p → b ≡ mask q → (a is b) ≡ compatible Flow p q
+unfolding compatible
+flow-compatible p q ea eb = rw (ea, eb) refl
 
 -- ---- the ones of a mask: those of the bits that were taken off, and those of the rest
 

@@ -1,12 +1,7 @@
 pub mod Parameters
 pub mod StepsLaws
 pub mod ListLaws
-pub mod AllLaws
 pub mod GroupsLaws
 pub mod FlowLaws
-pub mod OursLaws
-pub mod ApplicationsLaws
-pub mod FeatureLaws
 pub mod StoringLaws
-pub mod CompatibleLaws
 pub mod WritingLaws

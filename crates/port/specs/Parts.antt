@@ -6,7 +6,7 @@ use Rattle.parameters.specs.declared.Feature.the-variants.{Groups, Flow, Applic
 use Rattle.feature.specs.declared.State.{State}
 use Rattle.feature.specs.declared.Switches.{Switches}
 use Rattle.feature.specs.declared.Release.{Release}
-use Rattle.feature.specs.State.{present}
+use Rattle.machine.specs.State.{present}
 use Rattle.port.specs.declared.Flag.{Flag}
 use Rattle.port.specs.declared.Flag.the-variants.{Admin, Receive, Transmit, Several}
 use Rattle.port.specs.declared.Control.{Control}

@@ -16,7 +16,7 @@ use Rattle.feature.specs.declared.Peer.{Peer}
 use Rattle.feature.specs.declared.State.{State}
 use Rattle.feature.specs.declared.Release.{Release}
 use Rattle.feature.specs.Outcome.{noPeer}
-use Rattle.feature.specs.State.{next, subTlv, settingOf}
+use Rattle.machine.specs.State.{next, subTlv, settingOf}
 use Rattle.port.specs.declared.Control.{Control}
 use Rattle.port.specs.declared.Port.{Port}
 use Rattle.port.specs.Parts.{switchedOff, featureOf, releasedOf, running}

@@ -11,7 +11,7 @@ use Rattle.tlv.specs.Layout.{fixedOctets}
 use Rattle.tlv.specs.declared.Refusal.the-variants.{NotRunning, ShortOutput}
 use Rattle.parameters.specs.declared.Feature.{Feature}
 use Rattle.parameters.specs.declared.Feature.the-variants.{Groups, Flow, Applications}
-use Rattle.feature.specs.State.{releaseTlv}
+use Rattle.machine.specs.State.{releaseTlv}
 use Rattle.port.specs.declared.Control.{Control}
 use Rattle.port.specs.declared.Port.{Port}
 use Rattle.port.specs.declared.Written.{Written}

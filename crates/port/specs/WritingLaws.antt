@@ -17,10 +17,10 @@ use Rattle.tlv.specs.Layout.{frameHead}
 use Rattle.parameters.specs.declared.Feature.{Feature}
 use Rattle.parameters.specs.declared.Feature.the-variants.{Groups, Flow, Applications}
 use Rattle.parameters.specs.Parameters.{featureNumber, content, validGroups, validFlow, valid, ours}
-use Rattle.parameters.specs.FeatureLaws.{ours-length}
+use Rattle.config.specs.FeatureLaws.{ours-length}
 use Rattle.feature.specs.declared.Release.{Release}
-use Rattle.feature.specs.State.{next, value, releaseTlv, differing}
-use Rattle.feature.specs.StateLaws.{Sized, changed-not}
+use Rattle.machine.specs.State.{next, value, releaseTlv, differing}
+use Rattle.machine.specs.StateLaws.{Sized, changed-not}
 use Rattle.port.specs.declared.Control.{Control}
 use Rattle.port.specs.declared.Port.{Port}
 use Rattle.port.specs.declared.Written.the-variants.{Octets, Refused}

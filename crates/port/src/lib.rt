@@ -1,5 +1,5 @@
-// One port by its parts, and what an event gives: the answer, the next port and the notices it raises. Events are crates `events` and,
-// of frames, `handling`.
+// One port by its parts, and what an event gives: the answer, the next port and the notices it raises. Events are crates `creation`,
+// `flags`, `changes` and, of frames, `handling`.
 use feature::Release;
 use feature::State;
 use notices::Kind;

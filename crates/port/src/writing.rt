@@ -40,9 +40,9 @@ pub fn frame_length(p: Port) -> usize
     ensures { λ r. ⌜ FrameLength p r ⌝ }
 {
     let r = p.released;
-    let groups = feature::steps::sub_tlv_length(Feature::Groups, p.groups.max, r.groups);
-    let flow = feature::steps::sub_tlv_length(Feature::Flow, p.flow.max, r.flow);
-    let applications = feature::steps::sub_tlv_length(
+    let groups = machine::sub_tlv_length(Feature::Groups, p.groups.max, r.groups);
+    let flow = machine::sub_tlv_length(Feature::Flow, p.flow.max, r.flow);
+    let applications = machine::sub_tlv_length(
         Feature::Applications,
         p.applications.max,
         r.applications,
@@ -77,11 +77,11 @@ fn put_features(p: Port, out: &mut [u8])
     ensures { λ _. ⌜ now (out .exit) ≡ sets (now (out .entry)) 18 (featureTlvs p) ⌝ }
 {
     let r = p.released;
-    let second = FEATURES + feature::steps::sub_tlv_length(Feature::Groups, p.groups.max, r.groups);
-    let third = second + feature::steps::sub_tlv_length(Feature::Flow, p.flow.max, r.flow);
-    feature::steps::put_sub_tlv(out, FEATURES, Feature::Groups, p.groups.max, r.groups);
-    feature::steps::put_sub_tlv(out, second, Feature::Flow, p.flow.max, r.flow);
-    feature::steps::put_sub_tlv(
+    let second = FEATURES + machine::sub_tlv_length(Feature::Groups, p.groups.max, r.groups);
+    let third = second + machine::sub_tlv_length(Feature::Flow, p.flow.max, r.flow);
+    machine::put_sub_tlv(out, FEATURES, Feature::Groups, p.groups.max, r.groups);
+    machine::put_sub_tlv(out, second, Feature::Flow, p.flow.max, r.flow);
+    machine::put_sub_tlv(
         out,
         third,
         Feature::Applications,
@@ -139,10 +139,10 @@ pub fn same_control(a: Control, b: Control) -> bool
 fn differs(f: Feature, m: u8, before: Release, n: u8, after: Release) -> bool
     ensures { λ r. ⌜ Differs f m before n after r ⌝ }
 {
-    if feature::steps::sub_tlv_length(f, m, before) != feature::steps::sub_tlv_length(f, n, after) {
+    if machine::sub_tlv_length(f, m, before) != machine::sub_tlv_length(f, n, after) {
         return true;
     }
-    feature::steps::differs(f, m, before, n, after)
+    machine::differs(f, m, before, n, after)
 }
 
 // Whether two frames differ; neither is written.

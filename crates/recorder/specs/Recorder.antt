@@ -18,8 +18,11 @@ use Rattle.port.specs.declared.Notices.{Notices}
 use Rattle.port.specs.declared.Event.{Event}
 use Rattle.port.specs.declared.Written.{Written}
 use Rattle.port.specs.declared.Written.the-variants as wrote
-use Rattle.events.specs.PortEvents.{blankPort, refused, inOrder}
-use Rattle.events.specs.PortEvents as events
+use Rattle.creation.specs.Creation.{blankPort}
+use Rattle.events.specs.PortEvents.{refused, inOrder}
+use Rattle.flags.specs.Flags as flags
+use Rattle.changes.specs.Changes as changes
+use Rattle.creation.specs.Creation as creation
 use Rattle.handling.specs.Handling as handling
 use Rattle.port.specs.Writing as writing
 use Rattle.recorder.specs.declared.Recorder.{Recorder}
@@ -45,15 +48,15 @@ blank = record { ports = replicate 4 blankPort; log = emptyLog }
 
 unfoldable pub happens : Port → Change → List ℕ → Event
 happens p Frame o = handling.handled p o
-happens p PeerGone o = events.peerGone p
-happens p (Flag x on) o = events.flagged x on p
-happens p (Setting number w) o = events.changedSetting number w o p
+happens p PeerGone o = flags.peerGone p
+happens p (Flag x on) o = flags.flagged x on p
+happens p (Setting number w) o = changes.changedSetting number w o p
 
 unfoldable pub changed : ℕ → Port → Change → List ℕ → Event
 changed n p x o = if isPort n then happens p x o else refused NoPort p
 
 unfoldable pub created : ℕ → Port → Versions → (Feature → Switches) → (Feature → List ℕ) → Event
-created n p v w o = if isPort n then events.created v w o p else refused NoPort p
+created n p v w o = if isPort n then creation.created v w o p else refused NoPort p
 
 -- what an event at port n raised is written into the log, with its number
 abbrev pub kept : Log → ℕ → Notices → Log

@@ -8,8 +8,8 @@ use borrow.Author.Tests.{not-true, not-false, eq-eqb, ne-eqb, le-leb, lt-leb}
 use Rattle.octets.specs.Words.{if_then_else_}
 use Rattle.tlv.specs.declared.Refusal.{Refusal}
 use Rattle.tlv.specs.declared.Refusal.the-variants.{NoNotice, NoPort}
-use Rattle.tlv.specs.declared.Reading.{Reading}
-use Rattle.tlv.specs.declared.Reading.the-variants.{Refused}
+use Rattle.contents.specs.declared.Reading.{Reading}
+use Rattle.contents.specs.declared.Reading.the-variants.{Refused}
 use Rattle.parameters.specs.declared.Feature.{Feature}
 use Rattle.parameters.specs.Parameters.{featureNumber}
 use Rattle.feature.specs.declared.Switches.{Switches}
@@ -26,8 +26,11 @@ use Rattle.port.specs.declared.Versions.{Versions}
 use Rattle.port.specs.declared.Event.{Event}
 use Rattle.port.specs.declared.Written.{Written}
 use Rattle.port.specs.declared.Written.the-variants as wrote
-use Rattle.events.specs.PortEvents.{blankPort, refused, listed, inOrder}
-use Rattle.events.specs.PortEvents as events
+use Rattle.creation.specs.Creation.{blankPort}
+use Rattle.events.specs.PortEvents.{refused, listed, inOrder}
+use Rattle.creation.specs.Creation as creation
+use Rattle.flags.specs.Flags as flags
+use Rattle.changes.specs.Changes as changes
 use Rattle.handling.specs.Handling as handling
 use Rattle.handling.specs.HandlingLaws.{Admits, handle-refused}
 use Rattle.port.specs.Writing as writing
@@ -76,7 +79,7 @@ module _ (n : ℕ) (p : Port) {b : Bool} (eb : b ≡ isPort n) where
     unfolding created
     created-nowhere t er = er ∙ rw (← eb, not-true b t) refl
 
-    pub created-at : not b ≡ false → e ≡ events.created v w o p → e ≡ created n p v w o
+    pub created-at : not b ≡ false → e ≡ creation.created v w o p → e ≡ created n p v w o
     unfolding created
     created-at t er = er ∙ rw (← eb, not-false b t) refl
 
@@ -94,15 +97,15 @@ module _ (n : ℕ) (p : Port) {b : Bool} (eb : b ≡ isPort n) where
       unfolding happens
       changed-frame ex er = er ∙ rw (← here, ex) refl
 
-      pub changed-gone : {e : Event} → x ≡ change.PeerGone → e ≡ events.peerGone p → e ≡ changed n p x o
+      pub changed-gone : {e : Event} → x ≡ change.PeerGone → e ≡ flags.peerGone p → e ≡ changed n p x o
       unfolding happens
       changed-gone ex er = er ∙ rw (← here, ex) refl
 
-      pub changed-flag : {e : Event} {flag : Flag} {on : Bool} → x ≡ change.Flag flag on → e ≡ events.flagged flag on p → e ≡ changed n p x o
+      pub changed-flag : {e : Event} {flag : Flag} {on : Bool} → x ≡ change.Flag flag on → e ≡ flags.flagged flag on p → e ≡ changed n p x o
       unfolding happens
       changed-flag ex er = er ∙ rw (← here, ex) refl
 
-      pub changed-setting : {e : Event} {number : ℕ} {w : Switches} → x ≡ change.Setting number w → e ≡ events.changedSetting number w o p → e ≡ changed n p x o
+      pub changed-setting : {e : Event} {number : ℕ} {w : Switches} → x ≡ change.Setting number w → e ≡ changes.changedSetting number w o p → e ≡ changed n p x o
       unfolding happens
       changed-setting ex er = er ∙ rw (← here, ex) refl
 

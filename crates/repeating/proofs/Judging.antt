@@ -8,10 +8,11 @@ use lib.ListN.{length}
 use Rattle.octets.specs.Words.{if_then_else_, _below_, _is_}
 use Rattle.tlv.specs.declared.Refusal.{Refusal}
 use Rattle.tlv.specs.declared.Refusal.the-variants.{NotRunning, SeveralNeighbours, InvalidSetting, UnknownFeature}
-use Rattle.tlv.specs.declared.Contents.{Contents}
-use Rattle.tlv.specs.declared.Reading.{Reading}
-use Rattle.tlv.specs.declared.Reading.the-variants.{Refused, Accepted}
-use Rattle.tlv.specs.Revisions.{hasApplications, readFor}
+use Rattle.contents.specs.declared.Contents.{Contents}
+use Rattle.contents.specs.declared.Reading.{Reading}
+use Rattle.contents.specs.declared.Reading.the-variants.{Refused, Accepted}
+use Rattle.tlv.specs.Revisions.{hasApplications}
+use Rattle.reading.specs.Revisions.{readFor}
 use Rattle.parameters.specs.declared.Feature.{Feature}
 use Rattle.parameters.specs.declared.Feature.the-variants.{Groups, Flow, Applications}
 use Rattle.parameters.specs.Parameters.{valid, validLocal}
@@ -23,7 +24,8 @@ use Rattle.feature.specs.declared.Outcome.{Outcome}
 use Rattle.feature.specs.declared.State.{State}
 use Rattle.feature.specs.Outcome.{Received, operOf, maxOf, parametersOf, lower, heldPeer, withoutPeer, judged, outcome}
 use Rattle.feature.specs.RulesLaws.{judged-oper, judged-peer}
-use Rattle.feature.specs.State.{next, freshAt, stopped, controlTwice, acknowledged, received, changed, marked, settingOf, sameSetting, judgedAgain, reset}
+use Rattle.machine.specs.State.{next, freshAt, stopped, changed, marked, settingOf, sameSetting, judgedAgain, reset}
+use Rattle.turn.specs.Turn.{controlTwice, acknowledged, received}
 use Rattle.port.specs.declared.Flag.{Flag}
 use Rattle.port.specs.declared.Flag.the-variants.{Admin, Receive, Transmit, Several}
 use Rattle.port.specs.declared.Port.{Port}
@@ -32,7 +34,11 @@ use Rattle.port.specs.declared.Raised.the-variants as raised
 use Rattle.port.specs.declared.Versions.{Versions}
 use Rattle.port.specs.Parts.{featureOf, withControl, withFeatures, release, flagOf, withFlag, running}
 use Rattle.port.specs.Sound.{SoundState, SoundPort}
-use Rattle.events.specs.PortEvents.{withSeq, raisesSeqNo, sent, freshParts, freshPort, event, unchanged, refused, started, createdPort, restarts, flagNotice, flagSet, flagged, peerGone, step5, completed, withFeature, withSetting, settingChanged, setTo, changedFeature, changedApplications, changedSetting, blankPort}
+use Rattle.sending.specs.Sending.{withSeq, raisesSeqNo, sent, freshParts, freshPort, step5, completed}
+use Rattle.events.specs.PortEvents.{event, unchanged, refused}
+use Rattle.creation.specs.Creation.{started, createdPort, blankPort}
+use Rattle.flags.specs.Flags.{restarts, flagNotice, flagSet, flagged, peerGone}
+use Rattle.changes.specs.Changes.{withFeature, withSetting, settingChanged, setTo, changedFeature, changedApplications, changedSetting}
 use Rattle.handling.specs.Handling.{Message, message, twice, met, exchanged, once, steps1to4, frameEvent, accepted, rejected, given, handled}
 use Rattle.handling.proofs.Tests.{beq-not}
 

@@ -11,30 +11,33 @@ use Rattle.notices.specs.Notices.{isPort}
 use Rattle.notices.specs.Notices as numbers
 use Rattle.notices.specs.PortLaws.{is-port}
 use Rattle.tlv.specs.declared.Refusal.the-variants.{InvalidSetting, NoPort}
-use Rattle.tlv.specs.Revisions.{readFor}
+use Rattle.reading.specs.Revisions.{readFor}
 use Rattle.port.specs.declared.Port.{Port}
 use Rattle.port.specs.Parts.{running}
 use Rattle.port.specs.Sound.{SoundPort}
-use Rattle.events.specs.PortEvents.{refused, createdPort, settingsValid, made, versionsFor, switchesFor, parametersFor}
-use Rattle.events.specs.PortEvents as events
+use Rattle.events.specs.PortEvents.{refused}
+use Rattle.creation.specs.Creation.{createdPort, settingsValid, made, versionsFor, switchesFor, parametersFor}
+use Rattle.creation.specs.Creation as creation
+use Rattle.flags.specs.Flags as flags
+use Rattle.changes.specs.Changes as changes
 use Rattle.handling.specs.Handling as handling
 use Rattle.handling.proofs.Standing.{Standing, blank-stands}
 use Rattle.recorder.specs.declared.Recorder.{Recorder}
 use Rattle.recorder.specs.declared.Change.the-variants.{Frame}
 use Rattle.recorder.specs.Recorder.{portAt, blank, happens, changed, created}
-use Rattle.recorder.specs.Calls.{Operation, create, frame, gone, flag, setting, write, take, Call, eventOf, after, afterAll}
-use Rattle.recorder.specs.Sound.{AllInRange, Reachable}
-use Rattle.recorder.proofs.Independent.{four-after, blank-four, blank-port, own-after, other-after}
-use Rattle.recorder.proofs.Reachable.{event-stands, nowhere, reachable-sound}
+use Rattle.calls.specs.Calls.{Operation, create, frame, gone, flag, setting, write, take, Call, eventOf, after, afterAll}
+use Rattle.calls.specs.Sound.{AllInRange, Reachable}
+use Rattle.calls.proofs.Independent.{four-after, blank-four, blank-port, own-after, other-after}
+use Rattle.calls.proofs.Reachable.{event-stands, nowhere, reachable-sound}
 use Rattle.repeating.specs.declared.Repetition.{Repetition}
-use Rattle.repeating.specs.Repeating.{otherwise, settled, repeatGiven, repeatOf, repetition, ControlAlone}
+use Rattle.repeating.specs.Repeating.{otherwise, noneWaits, repeatGiven, repeatOf, repetition, ControlAlone}
 use Rattle.repeating.proofs.Judging.{Judged, handled-judged, flagged-judged, gone-judged, setting-judged, created-judged, blank-judged}
 use Rattle.repeating.proofs.Repeated.{repeated}
 
 -- ---- one call at one port
 
 event-judged : (n : ℕ) (p : Port) (x : Operation) → SoundPort p → Judged p → Judged (eventOf n p x .port)
-unfolding eventOf changed happens created events.created events.createdWith
+unfolding eventOf changed happens created creation.created creation.createdWith
 event-judged n p (create v w o) s h = by (isPort n) (settingsValid (parametersFor (v .revision) o))
   where
     by : (b c : Bool)
@@ -51,17 +54,17 @@ event-judged n p (frame o) s h = by (isPort n)
     by false = h
 event-judged n p gone s h = by (isPort n)
   where
-    by : (b : Bool) → Judged ((if b then events.peerGone p else refused NoPort p) .port)
+    by : (b : Bool) → Judged ((if b then flags.peerGone p else refused NoPort p) .port)
     by true = gone-judged p h
     by false = h
 event-judged n p (flag x on) s h = by (isPort n)
   where
-    by : (b : Bool) → Judged ((if b then events.flagged x on p else refused NoPort p) .port)
+    by : (b : Bool) → Judged ((if b then flags.flagged x on p else refused NoPort p) .port)
     by true = flagged-judged p h x on
     by false = h
 event-judged n p (setting number w o) s h = by (isPort n)
   where
-    by : (b : Bool) → Judged ((if b then events.changedSetting number w o p else refused NoPort p) .port)
+    by : (b : Bool) → Judged ((if b then changes.changedSetting number w o p else refused NoPort p) .port)
     by true = setting-judged p h s number w o
     by false = h
 event-judged n p (write out) s h = h
@@ -104,7 +107,7 @@ reachable-judged r h n = rw (h .is) (steady (h .calls) (h .octets) n .judged)
 -- ---- a frame that repeats what is held
 
 port-repeats : (n : ℕ) (p : Port) → SoundPort p → Judged p → (o : List ℕ) → repeatOf n p o .holds ≡ true → changed n p Frame o ≡ repetition p (repeatOf n p o)
-unfolding changed happens repeatOf settled
+unfolding changed happens repeatOf noneWaits
 port-repeats n p s j o = by (isPort n) (running p) (p .several) (p .groups .syncd) (p .flow .syncd) (p .applications .syncd) refl refl refl refl refl
   where
     told : Repetition

@@ -10,25 +10,26 @@ use borrow.Author.Tests.{eqb-true, eq-eqb, le-ltb}
 use Rattle.octets.specs.Words.{if_then_else_, _below_, _is_}
 use Rattle.octets.specs.Octets.{at, same}
 use Rattle.octets.specs.Laws.{same-is, and-left, and-right}
-use Rattle.tlv.specs.declared.Contents.{Contents}
-use Rattle.tlv.specs.declared.Reading.{Reading}
-use Rattle.tlv.specs.declared.Reading.the-variants.{Refused, Accepted}
+use Rattle.contents.specs.declared.Contents.{Contents}
+use Rattle.contents.specs.declared.Reading.{Reading}
+use Rattle.contents.specs.declared.Reading.the-variants.{Refused, Accepted}
 use Rattle.tlv.specs.declared.Refusal.the-variants.{NotRunning, SeveralNeighbours}
-use Rattle.tlv.specs.Revisions.{readFor}
-use Rattle.tlv.specs.Layout.{valueOf}
+use Rattle.reading.specs.Revisions.{readFor}
+use Rattle.contents.specs.Contents.{valueOf}
 use Rattle.parameters.specs.declared.Feature.{Feature}
 use Rattle.parameters.specs.declared.Feature.the-variants.{Groups, Flow, Applications}
 use Rattle.parameters.specs.Parameters.{validGroups, validFlow, validApplications, fewAndNew, valid, ours, stored, content}
 use Rattle.feature.specs.declared.Reason.{Reason}
 use Rattle.feature.specs.declared.Peer.{Peer}
 use Rattle.feature.specs.declared.State.{State}
-use Rattle.feature.specs.declared.steps.Course.{Course}
-use Rattle.feature.specs.declared.steps.Course.the-variants.{Twice, OtherVersion, Exchange}
+use Rattle.turn.specs.declared.Course.{Course}
+use Rattle.turn.specs.declared.Course.the-variants.{Twice, OtherVersion, Exchange}
 use Rattle.feature.specs.Reasons.{reasonNumber}
 use Rattle.feature.specs.Outcome.{operOf, maxOf, enableOf, willingOf, errorOf, parametersOf, lower, heldPeer, judged, outcome}
-use Rattle.feature.specs.State.{present, withOutcome, acknowledged, received, marked}
-use Rattle.feature.specs.StateLaws.{changed-not, marked-same}
-use Rattle.feature.specs.TurnLaws.{after}
+use Rattle.machine.specs.State.{present, withOutcome, marked}
+use Rattle.turn.specs.Turn.{acknowledged, received}
+use Rattle.machine.specs.StateLaws.{changed-not, marked-same}
+use Rattle.turn.specs.TurnLaws.{after}
 use Rattle.notices.specs.declared.Kind.the-variants.{DuplicateControl}
 use Rattle.port.specs.declared.Port.{Port}
 use Rattle.port.specs.declared.Answer.the-variants.{Done}
@@ -37,7 +38,8 @@ use Rattle.port.specs.Parts.{featureOf, withControl, running}
 use Rattle.port.specs.Sound.{SoundState, SoundPort}
 use Rattle.port.specs.Writing.{controlValue, asks}
 use Rattle.port.specs.WritingLaws.{asks-control}
-use Rattle.events.specs.PortEvents.{unacknowledged, becomes, completed}
+use Rattle.sending.specs.Sending.{unacknowledged, completed}
+use Rattle.events.specs.PortEvents.{becomes}
 use Rattle.handling.specs.declared.Heard.{Heard}
 use Rattle.handling.specs.Handling.{message, hasOf, steps1to4, newlyMarked, frameEvent, accepted, rejected, given, handled}
 use Rattle.handling.specs.HandlingLaws.{controlBy, heardOf, stateBy, upBy, portBy, completed-by}

@@ -14,7 +14,7 @@ use Rattle.octets.specs.Laws.{same-is, same-refl, unlike}
 use Rattle.parameters.specs.declared.Feature.{Feature}
 use Rattle.parameters.specs.declared.Feature.the-variants.{Groups, Flow, Applications}
 use Rattle.parameters.specs.Parameters.{entryCount, isOurs, oursOf, ours}
-use Rattle.parameters.specs.OursLaws.{Begins, begins, ours-own, ours-foreign, own-long}
+use Rattle.applications.specs.OursLaws.{Begins, begins, ours-own, ours-foreign, own-long}
 use Rattle.repeating.specs.Repeating.{holdsOf}
 
 -- our own of the first i entries are the first `size` octets of what is held

@@ -7,17 +7,17 @@ use mathlib.Core.List.{List}
 use lib.ListN.{length}
 use Rattle.octets.specs.Words.{if_then_else_, _below_, _atmost_, _is_}
 use Rattle.octets.specs.Octets.{at, same}
-use Rattle.tlv.specs.declared.Contents.{Contents}
-use Rattle.tlv.specs.declared.Reading.{Reading}
-use Rattle.tlv.specs.declared.Reading.the-variants.{Refused, Accepted}
-use Rattle.tlv.specs.Layout.{valueOf}
-use Rattle.tlv.specs.Revisions.{readFor}
+use Rattle.contents.specs.declared.Contents.{Contents}
+use Rattle.contents.specs.declared.Reading.{Reading}
+use Rattle.contents.specs.declared.Reading.the-variants.{Refused, Accepted}
+use Rattle.contents.specs.Contents.{valueOf}
+use Rattle.reading.specs.Revisions.{readFor}
 use Rattle.parameters.specs.declared.Feature.{Feature}
 use Rattle.parameters.specs.declared.Feature.the-variants.{Groups, Flow, Applications}
 use Rattle.parameters.specs.Parameters.{content, ours}
 use Rattle.feature.specs.declared.State.{State}
-use Rattle.feature.specs.declared.steps.Course.{Course}
-use Rattle.feature.specs.declared.steps.Course.the-variants.{Twice, OtherVersion, Exchange}
+use Rattle.turn.specs.declared.Course.{Course}
+use Rattle.turn.specs.declared.Course.the-variants.{Twice, OtherVersion, Exchange}
 use Rattle.feature.specs.Outcome.{operOf, maxOf, parametersOf, lower}
 use Rattle.notices.specs.Notices.{isPort}
 use Rattle.port.specs.declared.Control.{Control}
@@ -31,7 +31,7 @@ use Rattle.handling.specs.HandlingLaws.{heardOf}
 use Rattle.recorder.specs.declared.Recorder.{Recorder}
 use Rattle.recorder.specs.declared.Change.the-variants.{Frame}
 use Rattle.recorder.specs.Recorder.{portAt, changed}
-use Rattle.recorder.specs.Sound.{Reachable}
+use Rattle.calls.specs.Sound.{Reachable}
 use Rattle.repeating.specs.declared.Repetition.{Repetition}
 
 abbrev pub otherwise : Control → Repetition
@@ -98,11 +98,11 @@ repeatGiven o (Refused why place) p = otherwise (p .control)
 repeatGiven o (Accepted c) p = repeatIn o c p
 
 -- the port takes frames (01, Refusal numbers, 1 and 2; 02, E10: 16), and none of its features waits
-unfoldable pub settled : ℕ → Port → Bool
-settled n p = (isPort n && running p && not (p .several)) && p .groups .syncd && p .flow .syncd && p .applications .syncd
+unfoldable pub noneWaits : ℕ → Port → Bool
+noneWaits n p = (isPort n && running p && not (p .several)) && p .groups .syncd && p .flow .syncd && p .applications .syncd
 
 unfoldable pub repeatOf : ℕ → Port → List ℕ → Repetition
-repeatOf n p o = if not (settled n p) then otherwise (p .control) else repeatGiven o (readFor (p .revision) o) p
+repeatOf n p o = if not (noneWaits n p) then otherwise (p .control) else repeatGiven o (readFor (p .revision) o) p
 
 -- ---- what is promised
 

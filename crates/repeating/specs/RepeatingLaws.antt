@@ -7,13 +7,13 @@ use lib.ListN.{length, take, drop}
 use borrow.Author.Tests.{not-true, not-false, lt-ltb, le-ltb, eq-eqb, ne-eqb}
 use Rattle.octets.specs.Words.{if_then_else_}
 use Rattle.octets.specs.Octets.{at, same}
-use Rattle.tlv.specs.declared.Contents.{Contents}
+use Rattle.contents.specs.declared.Contents.{Contents}
 use Rattle.tlv.specs.declared.Revision.{Revision}
 use Rattle.tlv.specs.declared.Refusal.{Refusal}
-use Rattle.tlv.specs.declared.Reading.{Reading}
-use Rattle.tlv.specs.declared.Reading.the-variants.{Refused, Accepted}
-use Rattle.tlv.specs.Promises.{Inside, ReadsFor}
-use Rattle.tlv.specs.Layout.{valueOf}
+use Rattle.contents.specs.declared.Reading.{Reading}
+use Rattle.contents.specs.declared.Reading.the-variants.{Refused, Accepted}
+use Rattle.reading.specs.Promises.{Inside, ReadsFor}
+use Rattle.contents.specs.Contents.{valueOf}
 use Rattle.parameters.specs.declared.Feature.{Feature}
 use Rattle.parameters.specs.declared.Feature.the-variants.{Groups, Flow, Applications}
 use Rattle.parameters.specs.Parameters.{content}
@@ -26,7 +26,7 @@ use Rattle.port.specs.Writing.{controlValue}
 use Rattle.handling.specs.declared.Heard.{Heard}
 use Rattle.handling.specs.HandlingLaws.{heardOf}
 use Rattle.repeating.specs.declared.Repetition.{Repetition}
-use Rattle.repeating.specs.Repeating.{otherwise, settled, flagsAre, holdsOf, repeatsHeld, repeatsIn, isExchange, repeatsAll, repeatIn, repeatGiven, repeatOf}
+use Rattle.repeating.specs.Repeating.{otherwise, noneWaits, flagsAre, holdsOf, repeatsHeld, repeatsIn, isExchange, repeatsAll, repeatIn, repeatGiven, repeatOf}
 
 -- ---- one feature
 
@@ -121,12 +121,12 @@ module _ (o : List ℕ) (c : Contents) (p : Port) where
       unfolding repeatIn
       in-repeated u es = rw (way, t, ← ea, u, es, eh) refl
 
-pub settled-is : (n : ℕ) (p : Port) {a b : Bool} → a ≡ isPort n → b ≡ running p
-    → ((((a && b) && not (p .several)) && p .groups .syncd) && p .flow .syncd) && p .applications .syncd ≡ settled n p
-unfolding settled
-settled-is n p ea eb = rw (ea, eb) refl
+pub none-waits-is : (n : ℕ) (p : Port) {a b : Bool} → a ≡ isPort n → b ≡ running p
+    → ((((a && b) && not (p .several)) && p .groups .syncd) && p .flow .syncd) && p .applications .syncd ≡ noneWaits n p
+unfolding noneWaits
+none-waits-is n p ea eb = rw (ea, eb) refl
 
-module _ (n : ℕ) (p : Port) (o : List ℕ) {b : Bool} (eb : b ≡ settled n p) where
+module _ (n : ℕ) (p : Port) (o : List ℕ) {b : Bool} (eb : b ≡ noneWaits n p) where
   pub repeat-waits : not b ≡ true → {r : Repetition} → r ≡ otherwise (p .control) → r ≡ repeatOf n p o
   unfolding repeatOf
   repeat-waits t e = e ∙ rw (← eb, t) refl

@@ -2,18 +2,18 @@
 ghost use mathlib.Core.Path.{_≡_};
 ghost use Prim.Native.Nat.{_+_, _≤_};
 ghost use lib.ListN.{length};
-ghost use Rattle.tlv.specs.Layout.{valueOf};
-ghost use Rattle.tlv.specs.Promises.{Inside};
+ghost use Rattle.contents.specs.Contents.{valueOf};
+ghost use Rattle.reading.specs.Promises.{Inside};
 ghost use Rattle.parameters.specs.declared.Feature.the-variants.{Applications};
-ghost use Rattle.repeating.specs.Repeating.{otherwise, settled, flagsAre, holdsOf, repeatsHeld, repeatsIn, isExchange, repeatsAll, repeatIn, repeatOf};
+ghost use Rattle.repeating.specs.Repeating.{otherwise, noneWaits, flagsAre, holdsOf, repeatsHeld, repeatsIn, isExchange, repeatsAll, repeatIn, repeatOf};
+use contents::Contents;
+use contents::Found;
+use contents::Reading;
 use feature::State;
-use feature::steps::Course;
 use parameters::Feature;
 use port::Control;
 use port::Port;
-use tlv::Contents;
-use tlv::Found;
-use tlv::Reading;
+use turn::Course;
 
 // What a frame does that repeats what is held of the peer: the control alone changes, and nothing is raised. Where `holds` is false
 // the rest says nothing.
@@ -51,7 +51,7 @@ fn holds_own(p: &[u8], held: &[u8]) -> bool
     let mut size: usize = 0;
     let mut i: usize = 0;
     while i < n {
-        if !parameters::applications::is_ours(p, i) {
+        if !applications::is_ours(p, i) {
             i += 1;
             continue;
         }
@@ -173,8 +173,8 @@ fn repeat_in(p: Port, s: &[u8], c: Contents) -> Repetition
 }
 
 // Whether the port with a number takes frames, and each of its features is Syncd.
-fn is_settled(n: u8, p: Port) -> bool
-    ensures { λ r. ⌜ r ≡ settled n p ⌝ }
+fn none_waits(n: u8, p: Port) -> bool
+    ensures { λ r. ⌜ r ≡ noneWaits n p ⌝ }
 {
     let takes = recorder::is_port(n) & port::writing::running(p) & !p.several;
     takes & p.groups.syncd & p.flow.syncd & p.applications.syncd
@@ -187,11 +187,11 @@ fn is_settled(n: u8, p: Port) -> bool
 pub fn repeat(n: u8, p: Port, s: &[u8]) -> Repetition
     ensures { λ r. ⌜ r ≡ repeatOf n p (now (s .entry)) ⌝ }
 {
-    if !is_settled(n, p) {
+    if !none_waits(n, p) {
         return no_repetition(p.control);
     }
     let revision = p.revision;
-    let read = tlv::read_for(revision, s);
+    let read = reading::read_for(revision, s);
     match read {
         Reading::Refused(_, _) => {
             return no_repetition(p.control);

@@ -1,7 +1,7 @@
 // Replays a capture between two ports, and reports what was counted (docs/FORMATS.md, The report of `replay`).
 use console::Lines;
 use console::arguments::Source;
-use console::settings::Pair;
+use settings::Pair;
 use tally::Replay;
 use tally::Tally;
 
@@ -48,10 +48,7 @@ fn feed_all(input: &mut [u8], start: Replay, first: Lines) -> Ended {
 // Creates both ends, replays the capture, and reports.
 fn run(input: &mut [u8], output: &mut [u8], s: Pair, alone: bool) {
     let b = s.b;
-    let start = tally::start(
-        console::settings::port_with(s.a),
-        console::settings::port_with(b),
-    );
+    let start = tally::start(settings::port_with(s.a), settings::port_with(b));
     let ended = feed_all(
         input,
         start,
@@ -67,7 +64,7 @@ fn run(input: &mut [u8], output: &mut [u8], s: Pair, alone: bool) {
 
 // Reads the settings from a descriptor, and if nothing is wrong with them runs the capture.
 fn serve(input: &mut [u8], output: &mut [u8], fd: i32, alone: bool) {
-    let s = console::settings::read_pair(input, output, console::start(fd), alone);
+    let s = settings::read_pair(input, output, console::start(fd), alone);
     if s.good {
         run(input, output, s, alone);
         return;

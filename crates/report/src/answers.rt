@@ -1,9 +1,9 @@
 // Answers: `done`, `refused`, notices.
 ghost use Prim.Native.Nat.{_≤_};
-use crate::forms;
 use notices::Notice;
 use port::Notices;
 use port::Raised;
+use printing::forms;
 use tlv::Refusal;
 
 // `notice N NAME WHERE`: the name goes by the number, and where by the number of the feature, 0 for the port.
@@ -64,7 +64,7 @@ pub fn raised_count(n: Notices) -> u8 {
 // How many notice lines follow, where any does, and the end of the line.
 fn ending(out: &mut [u8], at: usize, follow: u8) -> usize {
     if follow == 0 {
-        return crate::text(out, at, b"\n");
+        return printing::text(out, at, b"\n");
     }
     let numbers = [follow as u64];
     forms::put(out, at, b" notices #\n", &numbers)
@@ -84,7 +84,7 @@ fn refusal(out: &mut [u8], at: usize, number: u8) -> usize {
 // `refused N NAME`, a line
 pub fn refused(out: &mut [u8], at: usize, r: Refusal) -> usize {
     let a = refusal(out, at, tlv::refusal_number(r));
-    crate::text(out, a, b"\n")
+    printing::text(out, a, b"\n")
 }
 
 // ` at P` where a frame went wrong, which 3 to 8 say.
@@ -114,16 +114,16 @@ pub fn done(out: &mut [u8], at: usize, send: bool, follow: u8) -> usize {
         return forms::put(out, at, b"done[| send] notices #\n", &numbers);
     }
     if send {
-        return crate::text(out, at, b"done send\n");
+        return printing::text(out, at, b"done send\n");
     }
-    crate::text(out, at, b"done\n")
+    printing::text(out, at, b"done\n")
 }
 
 // `A HEX`, a capture's line
 pub fn frame(out: &mut [u8], at: usize, octets: &[u8]) -> usize {
-    let a = crate::text(out, at, b"A ");
-    let b = crate::hex(out, a, octets);
-    crate::text(out, b, b"\n")
+    let a = printing::text(out, at, b"A ");
+    let b = printing::hex(out, a, octets);
+    printing::text(out, b, b"\n")
 }
 
 // `bad settings: line N: refused R NAME`
@@ -131,12 +131,12 @@ pub fn refused_setting(out: &mut [u8], at: usize, line: u64, number: u8) -> usiz
     let numbers = [line];
     let a = forms::put(out, at, b"bad settings: line #: ", &numbers);
     let b = refusal(out, a, number);
-    crate::text(out, b, b"\n")
+    printing::text(out, b, b"\n")
 }
 
 // `bad settings: FILE cannot be opened`
 pub fn unopened(out: &mut [u8], at: usize, file: &[u8]) -> usize {
-    let a = crate::text(out, at, b"bad settings: ");
-    let b = crate::text(out, a, file);
-    crate::text(out, b, b" cannot be opened\n")
+    let a = printing::text(out, at, b"bad settings: ");
+    let b = printing::text(out, a, file);
+    printing::text(out, b, b" cannot be opened\n")
 }

@@ -1,7 +1,7 @@
 // Configurations in words, as settings have them, each word behind a space.
-use crate::forms;
 use parameters::Feature;
 use parameters::Parameters;
+use printing::forms;
 
 // An octet of the parameters, and its four-bit halves.
 fn whole(p: &[u8], i: usize) -> u64 {
@@ -46,8 +46,8 @@ fn groups(out: &mut [u8], at: usize, p: &[u8]) -> usize {
 
 fn flow(out: &mut [u8], at: usize, p: &[u8]) -> usize {
     let classes = [whole(p, 1)];
-    let a = crate::text(out, at, b" mask ");
-    let b = crate::hex(out, a, octets::first(p, 1));
+    let a = printing::text(out, at, b" mask ");
+    let b = printing::hex(out, a, octets::first(p, 1));
     forms::put(out, b, b" classes #", &classes)
 }
 
@@ -60,15 +60,15 @@ fn entry(out: &mut [u8], at: usize, p: &[u8]) -> usize {
         b" [ethertype|port|selector-2|selector-3] ",
         &selector,
     );
-    let b = crate::hex(out, a, octets::first(p, 2));
-    let c = crate::text(out, b, b" ");
-    crate::hex(out, c, octets::first(octets::from(p, 5), 1))
+    let b = printing::hex(out, a, octets::first(p, 2));
+    let c = printing::text(out, b, b" ");
+    printing::hex(out, c, octets::first(octets::from(p, 5), 1))
 }
 
 fn applications(out: &mut [u8], at: usize, p: &[u8], none: bool) -> usize {
     let n = p.len() / 6;
     if none & (n == 0) {
-        return crate::text(out, at, b" none");
+        return printing::text(out, at, b" none");
     }
     let mut to = at;
     let mut i: usize = 0;

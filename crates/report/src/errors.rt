@@ -1,10 +1,10 @@
 // What is wrong with a line: the word that is not what is due, or the reason of refusal 9.
-use crate::forms;
 use faults::Fault;
+use fields::Field;
+use fields::Name;
+use printing::forms;
 use script::Due;
 use script::Unread;
-use script::forms::Field;
-use script::forms::Name;
 
 // The place among the forms of `due`: of a name, of a field, of all.
 fn name_place(n: Name) -> u64 {
@@ -174,7 +174,7 @@ fn reason(out: &mut [u8], at: usize, f: Fault) -> usize {
 
 // `refused 9 invalid-setting: WHY`
 pub fn invalid(out: &mut [u8], at: usize, f: Fault) -> usize {
-    let behind = crate::text(out, at, b"refused 9 invalid-setting: ");
+    let behind = printing::text(out, at, b"refused 9 invalid-setting: ");
     reason(out, behind, f)
 }
 

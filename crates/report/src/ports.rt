@@ -6,8 +6,8 @@ pub fn first(out: &mut [u8], at: usize, given: bool, n: u8) -> usize {
     if !given {
         return at;
     }
-    let a = crate::number(out, at, n as u64);
-    crate::text(out, a, b" ")
+    let a = printing::number(out, at, n as u64);
+    printing::text(out, a, b" ")
 }
 
 // Puts a text before the octets from `at` to `end`, which move up, and gives their new end.
@@ -25,7 +25,7 @@ fn insert(out: &mut [u8], at: usize, end: usize, s: &[u8]) -> usize {
         i -= 1;
         out[i + n] = out[i];
     }
-    crate::text(out, at, s);
+    printing::text(out, at, s);
     end + n
 }
 

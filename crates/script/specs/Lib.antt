@@ -1,9 +1,2 @@
-pub mod Text
-pub mod Forms
 pub mod Lines
-pub mod StepsLaws
-pub mod TextLaws
-pub mod FormsLaws
-pub mod WordsLaws
-pub mod ReadingLaws
 pub mod LinesLaws

@@ -1,20 +1,20 @@
 -- docs/FORMATS.md: the lines of settings and of events.
 use Prim.Native.Nat.{ℕ, _+_, _-_, _%_}
 use mathlib.Core.Bool.{Bool, true, false, _&&_, _||_}
-use mathlib.Core.List.{List, [], _++_}
-use lib.ListN.{length, take, drop, replicate}
+use mathlib.Core.List.{List, []}
+use lib.ListN.{length, take, drop}
 use Rattle.octets.specs.Words.{if_then_else_, _below_, _is_}
 use Rattle.octets.specs.Octets.{at, same}
 use Rattle.octets.specs.Texts.{text}
 use Rattle.tlv.specs.declared.Revision.the-variants.{Rev101, Rev10}
-use Rattle.script.specs.declared.forms.Name.{Name}
-use Rattle.script.specs.declared.forms.Name.the-variants as Name
-use Rattle.script.specs.declared.forms.Field.the-variants.{Word, Bit, Decimal, End}
-use Rattle.script.specs.declared.forms.Form.{Form}
-use Rattle.script.specs.declared.forms.Form.the-variants as Form
-use Rattle.script.specs.declared.forms.Values.{Values}
-use Rattle.script.specs.declared.text.Number.{Number}
-use Rattle.script.specs.declared.text.Number.the-variants.{Is, Not}
+use Rattle.fields.specs.declared.Name.{Name}
+use Rattle.fields.specs.declared.Name.the-variants as Name
+use Rattle.fields.specs.declared.Field.the-variants.{Word, Bit, Decimal, End}
+use Rattle.fields.specs.declared.Form.{Form}
+use Rattle.fields.specs.declared.Form.the-variants as Form
+use Rattle.fields.specs.declared.Values.{Values}
+use Rattle.words.specs.declared.Number.{Number}
+use Rattle.words.specs.declared.Number.the-variants.{Is, Not}
 use Rattle.script.specs.declared.Flag.{Flag}
 use Rattle.script.specs.declared.Flag.the-variants.{Admin, Receive, Transmit, Several}
 use Rattle.script.specs.declared.Part.{Part}
@@ -29,9 +29,9 @@ use Rattle.script.specs.declared.Kind.{Kind}
 use Rattle.script.specs.declared.Kind.the-variants as Kind
 use Rattle.script.specs.declared.Line.{Line}
 use Rattle.script.specs.declared.PortWord.{PortWord}
-use Rattle.script.specs.Text.{words, first, others, number, isOctets, octetsOf}
-use Rattle.script.specs.Forms.{nameText, fieldNumber, valuesOf, parametersOf}
-use Rattle.script.specs.StepsLaws.{trimmed, rest}
+use Rattle.words.specs.Text.{words, first, others, number, isOctets, octetsOf, filled}
+use Rattle.fields.specs.Forms.{nameText, fieldNumber, valuesOf, parametersOf}
+use Rattle.words.specs.StepsLaws.{trimmed, rest}
 
 -- "A line that is empty or begins with # is passed over."
 unfoldable pub passedOver : List ℕ → Bool
@@ -59,10 +59,6 @@ wordsBehind false s = words s
 wordsBehind true s = others (words s)
 
 -- ---- what a line gives
-
--- octets as a line holds them: 513 places, zero past the last
-unfoldable pub filled : List ℕ → List ℕ
-filled p = p ++ replicate (513 - length p) 0
 
 unfoldable pub lineOf : Kind → List ℕ → Line
 lineOf k p = record { kind = k; n = length p; octets = filled p }

@@ -11,14 +11,14 @@ use Rattle.octets.specs.Words.{_is_}
 use Rattle.octets.specs.Octets.{at, same}
 use Rattle.octets.specs.Texts.{text}
 use Rattle.tlv.specs.declared.Revision.the-variants.{Rev101, Rev10}
-use Rattle.script.specs.declared.forms.Name.{Name}
-use Rattle.script.specs.declared.forms.Name.the-variants as Name
-use Rattle.script.specs.declared.forms.Field.the-variants.{Word, Bit, Decimal, End}
-use Rattle.script.specs.declared.forms.Form.{Form}
-use Rattle.script.specs.declared.forms.Form.the-variants as Form
-use Rattle.script.specs.declared.forms.Values.{Values}
-use Rattle.script.specs.declared.text.Number.{Number}
-use Rattle.script.specs.declared.text.Number.the-variants.{Is, Not}
+use Rattle.fields.specs.declared.Name.{Name}
+use Rattle.fields.specs.declared.Name.the-variants as Name
+use Rattle.fields.specs.declared.Field.the-variants.{Word, Bit, Decimal, End}
+use Rattle.fields.specs.declared.Form.{Form}
+use Rattle.fields.specs.declared.Form.the-variants as Form
+use Rattle.fields.specs.declared.Values.{Values}
+use Rattle.words.specs.declared.Number.{Number}
+use Rattle.words.specs.declared.Number.the-variants.{Is, Not}
 use Rattle.script.specs.declared.Flag.{Flag}
 use Rattle.script.specs.declared.Flag.the-variants.{Admin, Receive, Transmit, Several}
 use Rattle.script.specs.declared.Part.{Part}
@@ -32,12 +32,12 @@ use Rattle.script.specs.declared.Kind.{Kind}
 use Rattle.script.specs.declared.Kind.the-variants as Kind
 use Rattle.script.specs.declared.Line.{Line}
 use Rattle.script.specs.declared.PortWord.{PortWord}
-use Rattle.script.specs.Text.{words, first, others, number, listed, isOctets, octetsOf}
-use Rattle.script.specs.Forms.{nameText, fieldNumber, valuesOf, parameterCount, parameterAt, parametersOf}
-use Rattle.script.specs.Lines.{passedOver, portNumber, portWord, behindPort, wordsBehind, settingsWord, beginsSettings, filled, lineOf, bare, unreadable, notDue, returned, settingKind, settingWith, feature, plain, alone, partName, namedRevision, controlOf, settingOf, settingMax, behindMax, behindName, settingLine, flagWord, keyword, flagBit, flag, writeRoom, write, formOf, numbered, changeOf, eventOf, isFrame, eventLine}
-use Rattle.script.specs.StepsLaws.{trimmed, firstWord, rest}
-use Rattle.script.specs.TextLaws.{length-listed}
-use Rattle.script.specs.WordsLaws.{words-trimmed, first-word, other-words}
+use Rattle.words.specs.Text.{words, first, others, number, listed, isOctets, octetsOf, filled}
+use Rattle.fields.specs.Forms.{nameText, fieldNumber, valuesOf, parameterCount, parameterAt, parametersOf}
+use Rattle.script.specs.Lines.{passedOver, portNumber, portWord, behindPort, wordsBehind, settingsWord, beginsSettings, lineOf, bare, unreadable, notDue, returned, settingKind, settingWith, feature, plain, alone, partName, namedRevision, controlOf, settingOf, settingMax, behindMax, behindName, settingLine, flagWord, keyword, flagBit, flag, writeRoom, write, formOf, numbered, changeOf, eventOf, isFrame, eventLine}
+use Rattle.words.specs.StepsLaws.{trimmed, firstWord, rest}
+use Rattle.words.specs.TextLaws.{length-listed}
+use Rattle.words.specs.WordsLaws.{words-trimmed, first-word, other-words}
 
 -- ---- the first word
 

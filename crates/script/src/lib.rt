@@ -1,19 +1,15 @@
 // Lines of text: settings and events, as docs/FORMATS.md fixes them.
 ghost use mathlib.Core.Path.{_≡_};
 ghost use Prim.Native.Nat.{_≤_};
-ghost use lib.ListN.{length, drop};
 ghost use Rattle.octets.specs.Octets.{same};
-ghost use Rattle.script.specs.Text.{words, first, octetsOf};
-ghost use Rattle.script.specs.Forms.{nameText};
-ghost use Rattle.script.specs.Lines.{portWord, portNumber, behindPort, settingsWord, beginsSettings, passedOver, returned, filled, bare, notDue, settingKind, feature, plain, numbered, partName, namedRevision, controlOf, settingOf, behindMax, behindName, settingLine, keyword, flagWord, alone, flag, write, formOf, changeOf, eventOf, isFrame, eventLine};
-use forms::Field;
-use forms::Form;
-use forms::Name;
-use text::Number;
+ghost use Rattle.words.specs.Text.{words, first};
+ghost use Rattle.fields.specs.Forms.{nameText};
+ghost use Rattle.script.specs.Lines.{portWord, portNumber, behindPort, settingsWord, beginsSettings, passedOver, returned, bare, notDue, settingKind, feature, plain, numbered, partName, namedRevision, controlOf, settingOf, behindMax, behindName, settingLine, keyword, flagWord, alone, flag, write, formOf, changeOf, eventOf, isFrame, eventLine};
+use fields::Field;
+use fields::Form;
+use fields::Name;
 use tlv::Revision;
-
-pub mod forms;
-pub mod text;
+use words::Number;
 
 // The lines of an end's settings, the last of them for Rev 1.01 alone.
 pub enum Part {
@@ -109,14 +105,14 @@ pub fn is_passed_over(line: &[u8]) -> bool
 pub fn port_of(line: &[u8]) -> PortWord
     ensures { λ r. ⌜ r ≡ portWord (portNumber (now (line .entry))) ⌝ }
 {
-    match text::read_number(text::word(line), 255) {
+    match words::read_number(words::word(line), 255) {
         Number::Not => PortWord {
             given: false,
             number: 1,
         },
         Number::Is(n) => PortWord {
             given: true,
-            number: forms::low(n),
+            number: fields::low(n),
         },
     }
 }
@@ -131,7 +127,7 @@ pub fn behind_port(line: &[u8], given: bool) -> &[u8]
     if LONGEST < line.len() {
         return line;
     }
-    text::trim(text::behind(line))
+    words::trim(words::behind(line))
 }
 
 // A line without octets.
@@ -168,14 +164,14 @@ fn feature(f: Form, word: usize, number: u8, s: &[u8]) -> Line
     requires { ⌜ word ≤ 4 ⌝ }
     ensures { λ r. ⌜ r ≡ feature f word number (words (now (s .entry))) ⌝ }
 {
-    let v = forms::read_form(f, s);
+    let v = fields::read_form(f, s);
     let due = v.due;
     if !v.good {
         return not_due(word + v.place, Due::Field(due));
     }
     let numbers = v.numbers;
-    let n = forms::parameter_count(f, v.place);
-    let octets = forms::parameters(f, n, &numbers);
+    let n = fields::parameter_count(f, v.place);
+    let octets = fields::parameters(f, n, &numbers);
     let kind = setting_kind(number, numbers);
     Line {
         kind: kind,
@@ -188,15 +184,15 @@ fn feature(f: Form, word: usize, number: u8, s: &[u8]) -> Line
 fn plain(number: u8, s: &[u8]) -> Line
     ensures { λ r. ⌜ r ≡ plain number (words (now (s .entry))) ⌝ }
 {
-    let v = forms::read_form(Form::Plain, s);
+    let v = fields::read_form(Form::Plain, s);
     let due = v.due;
     if !v.good {
         return not_due(3 + v.place, Due::Field(due));
     }
     let numbers = v.numbers;
-    let w = text::word_at(s, 7);
-    let n = text::octets_count(w);
-    let octets = text::octets_of(w);
+    let w = words::word_at(s, 7);
+    let n = words::octets_count(w);
+    let octets = words::octets_of(w);
     let kind = setting_kind(number, numbers);
     Line {
         kind: kind,
@@ -209,7 +205,7 @@ fn plain(number: u8, s: &[u8]) -> Line
 fn alone(kind: Kind, word: usize, s: &[u8]) -> Line
     ensures { λ r. ⌜ r ≡ alone kind word (words (now (s .entry))) ⌝ }
 {
-    if forms::is_over(s) {
+    if fields::is_over(s) {
         return bare(kind);
     }
     not_due(word, Due::Field(Field::End))
@@ -231,8 +227,8 @@ pub fn part_name(p: Part) -> Name
 fn named_revision(max: u8, s: &[u8]) -> Line
     ensures { λ r. ⌜ r ≡ namedRevision max (words (now (s .entry))) ⌝ }
 {
-    let w = text::word(s);
-    let more = text::behind(s);
+    let w = words::word(s);
+    let more = words::behind(s);
     if octets::same_octets(w, b"1.0") {
         return alone(Kind::Control(max, Revision::Rev10), 6, more);
     }
@@ -246,11 +242,11 @@ fn named_revision(max: u8, s: &[u8]) -> Line
 fn control_of(max: u8, s: &[u8]) -> Line
     ensures { λ r. ⌜ r ≡ controlOf max (words (now (s .entry))) ⌝ }
 {
-    if forms::is_over(s) {
+    if fields::is_over(s) {
         return bare(Kind::Control(max, Revision::Rev101));
     }
-    if forms::is_name(Name::Revision, text::word(s)) {
-        return named_revision(max, text::behind(s));
+    if fields::is_name(Name::Revision, words::word(s)) {
+        return named_revision(max, words::behind(s));
     }
     not_due(4, Due::Field(Field::Word(Name::Revision)))
 }
@@ -270,17 +266,17 @@ fn setting_of(p: Part, max: u8, s: &[u8]) -> Line
 fn behind_max(p: Part, s: &[u8]) -> Line
     ensures { λ r. ⌜ r ≡ behindMax p (words (now (s .entry))) ⌝ }
 {
-    match text::read_number(text::word(s), 255) {
+    match words::read_number(words::word(s), 255) {
         Number::Not => not_due(3, Due::Field(Field::Decimal(255))),
-        Number::Is(max) => setting_of(p, forms::low(max), text::behind(s)),
+        Number::Is(max) => setting_of(p, fields::low(max), words::behind(s)),
     }
 }
 
 fn behind_name(p: Part, s: &[u8]) -> Line
     ensures { λ r. ⌜ r ≡ behindName p (words (now (s .entry))) ⌝ }
 {
-    if forms::is_name(Name::Max, text::word(s)) {
-        return behind_max(p, text::behind(s));
+    if fields::is_name(Name::Max, words::word(s)) {
+        return behind_max(p, words::behind(s));
     }
     not_due(2, Due::Field(Field::Word(Name::Max)))
 }
@@ -307,8 +303,8 @@ pub fn parse_setting(due: Part, line: &[u8]) -> Line
         return bare(Kind::Unreadable(Unread::Return));
     }
     let name = part_name(due);
-    if forms::is_name(name, text::word(line)) {
-        return behind_name(due, text::behind(line));
+    if fields::is_name(name, words::word(line)) {
+        return behind_name(due, words::behind(line));
     }
     not_due(1, Due::Field(Field::Word(name)))
 }
@@ -317,10 +313,10 @@ pub fn parse_setting(due: Part, line: &[u8]) -> Line
 fn is_settings_word(w: &[u8]) -> bool
     ensures { λ r. ⌜ r ≡ settingsWord (now (w .entry)) ⌝ }
 {
-    if forms::is_name(Name::Control, w) {
+    if fields::is_name(Name::Control, w) {
         return true;
     }
-    forms::is_name(Name::Applications, w)
+    fields::is_name(Name::Applications, w)
 }
 
 // Whether a line behind a port's settings, which may be an event, is one of settings.
@@ -329,9 +325,9 @@ pub fn begins_settings(line: &[u8]) -> bool
 {
     let w = port_of(line);
     if w.given {
-        return is_settings_word(text::word(text::behind(line)));
+        return is_settings_word(words::word(words::behind(line)));
     }
-    is_settings_word(text::word(line))
+    is_settings_word(words::word(line))
 }
 
 fn keyword_of(w: &[u8]) -> Keyword
@@ -380,9 +376,9 @@ fn flag_of(w: &[u8]) -> Keyword
 fn flag_line(x: Flag, s: &[u8]) -> Line
     ensures { λ r. ⌜ r ≡ flag x (words (now (s .entry))) ⌝ }
 {
-    match forms::read_field(Field::Bit, text::word(s)) {
+    match fields::read_field(Field::Bit, words::word(s)) {
         Number::Not => not_due(2, Due::Field(Field::Bit)),
-        Number::Is(on) => alone(Kind::Flag(x, on == 1), 3, text::behind(s)),
+        Number::Is(on) => alone(Kind::Flag(x, on == 1), 3, words::behind(s)),
     }
 }
 
@@ -390,9 +386,9 @@ fn flag_line(x: Flag, s: &[u8]) -> Line
 fn write_line(s: &[u8]) -> Line
     ensures { λ r. ⌜ r ≡ write (words (now (s .entry))) ⌝ }
 {
-    match text::read_number(text::word(s), 1000) {
+    match words::read_number(words::word(s), 1000) {
         Number::Not => not_due(2, Due::Field(Field::Decimal(1000))),
-        Number::Is(room) => alone(Kind::Write(room), 3, text::behind(s)),
+        Number::Is(room) => alone(Kind::Write(room), 3, words::behind(s)),
     }
 }
 
@@ -400,13 +396,13 @@ fn write_line(s: &[u8]) -> Line
 fn form_of(w: &[u8]) -> Form
     ensures { λ r. ⌜ r ≡ formOf (now (w .entry)) ⌝ }
 {
-    if forms::is_name(Name::Groups, w) {
+    if fields::is_name(Name::Groups, w) {
         return Form::Groups;
     }
-    if forms::is_name(Name::Flow, w) {
+    if fields::is_name(Name::Flow, w) {
         return Form::Flow;
     }
-    if forms::is_name(Name::Applications, w) {
+    if fields::is_name(Name::Applications, w) {
         return Form::Applications;
     }
     Form::Plain
@@ -418,20 +414,20 @@ fn numbered(number: Number, s: &[u8]) -> Line
 {
     match number {
         Number::Not => not_due(2, Due::Feature),
-        Number::Is(n) => plain(forms::low(n), s),
+        Number::Is(n) => plain(fields::low(n), s),
     }
 }
 
 fn change(s: &[u8]) -> Line
     ensures { λ r. ⌜ r ≡ changeOf (formOf (first (words (now (s .entry))))) (words (now (s .entry))) ⌝ }
 {
-    let w = text::word(s);
-    let more = text::behind(s);
+    let w = words::word(s);
+    let more = words::behind(s);
     match form_of(w) {
         Form::Groups => feature(Form::Groups, 3, 2, more),
         Form::Flow => feature(Form::Flow, 3, 3, more),
         Form::Applications => feature(Form::Applications, 3, 4, more),
-        Form::Plain => numbered(text::read_number(w, 255), more),
+        Form::Plain => numbered(words::read_number(w, 255), more),
     }
 }
 
@@ -458,21 +454,7 @@ pub fn is_frame(s: &[u8]) -> bool
     if !octets::same_octets(octets::first(s, 2), b"B ") {
         return false;
     }
-    text::is_octets(octets::from(s, 2), 513)
-}
-
-// How many octets the frame of a line has.
-pub fn frame_length(line: &[u8]) -> usize
-    ensures { λ r. ⌜ r ≡ length (octetsOf (drop 2 (now (line .entry)))) ⌝ }
-{
-    text::octets_count(octets::from(line, 2))
-}
-
-// The octets of the frame of a line, zero past them.
-pub fn frame_octets(line: &[u8]) -> [u8; 513]
-    ensures { λ r. ⌜ r ≡ filled (octetsOf (drop 2 (now (line .entry)))) ⌝ }
-{
-    text::octets_of(octets::from(line, 2))
+    words::is_octets(octets::from(s, 2), 513)
 }
 
 // An event of `desk` (docs/FORMATS.md, Events).
@@ -486,13 +468,13 @@ pub fn parse_event(line: &[u8]) -> Line
         return bare(Kind::Unreadable(Unread::Return));
     }
     if is_frame(line) {
-        let n = frame_length(line);
-        let octets = frame_octets(line);
+        let n = words::frame_length(line);
+        let octets = words::frame_octets(line);
         return Line {
             kind: Kind::Frame,
             n: n,
             octets: octets,
         };
     }
-    event_of(keyword_of(text::word(line)), text::behind(line))
+    event_of(keyword_of(words::word(line)), words::behind(line))
 }

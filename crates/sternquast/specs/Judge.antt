@@ -2,10 +2,10 @@
 -- 3 to 8 don't apply."
 use Prim.Native.Nat.{ℕ}
 use mathlib.Core.List.{List}
-use Rattle.tlv.specs.declared.Reading.{Reading}
-use Rattle.tlv.specs.declared.Reading.the-variants.{Refused, Accepted}
+use Rattle.contents.specs.declared.Reading.{Reading}
+use Rattle.contents.specs.declared.Reading.the-variants.{Refused, Accepted}
 use Rattle.tlv.specs.Refusals.{refusalNumber}
-use Rattle.tlv.specs.Layout.{readFrame}
+use Rattle.reading.specs.Reading.{readFrame}
 use Rattle.sternquast.specs.declared.Verdict.{Verdict}
 
 abbrev pub verdict : Reading → Verdict

@@ -1,7 +1,7 @@
 // The library for firmware in C: all that it calls. include/sternquast.h declares the same to C.
 ghost use mathlib.Core.Path.{_≡_};
 ghost use Rattle.sternquast.specs.Judge.{judged};
-use tlv::Reading;
+use contents::Reading;
 
 // A refusal's number of document 01 and its place in the frame; both 0 where there is none.
 #[repr(C)]
@@ -15,7 +15,7 @@ pub struct Verdict {
 pub extern "C" fn sternquast_judge(frame: &[u8]) -> Verdict
     ensures { λ r. ⌜ r ≡ judged (now (frame .entry)) ⌝ }
 {
-    let read = tlv::read(frame);
+    let read = reading::read(frame);
     match read {
         Reading::Refused(why, place) => {
             let refusal = tlv::refusal_number(why) as u32;

@@ -1,15 +1,12 @@
 -- What the functions do, on the values that they hold: a line at two ports and their counts, octets as they come, and the text of the counts.
 -- What this comes to over a whole capture is Replay and Report: see Replayed.
-use Prim.Native.Nat.{ℕ, _+_, _-_}
+use Prim.Native.Nat.{ℕ}
 use mathlib.Core.Path.{_≡_}
 use mathlib.Core.Bool.{Bool, true, false, _&&_}
 use mathlib.Core.List.{List, [], _∷_, _++_}
-use lib.ListN.{length, drop, set, replicate}
-use Rattle.octets.specs.Words.{if_then_else_, _below_, _is_}
-use Rattle.octets.specs.Octets.{at}
+use lib.ListN.{length, drop, replicate}
+use Rattle.octets.specs.Words.{if_then_else_, _below_}
 use Rattle.octets.specs.Texts.{text}
-use Rattle.feature.specs.declared.State.{State}
-use Rattle.feature.specs.Reasons.{reasonNumber}
 use Rattle.port.specs.declared.Port.{Port}
 use Rattle.port.specs.declared.Event.{Event}
 use Rattle.port.specs.Replies.{eventReply}
@@ -21,42 +18,11 @@ use Rattle.capture.specs.Capture.{formOf, frameOf}
 use Rattle.capture.specs.declared.Held.{Held}
 use Rattle.capture.specs.Steps.{heldOf, pending}
 use Rattle.capture.specs.Feeding.{fedFrom, heldFed, ended}
-use Rattle.tally.specs.declared.Changes.{Changes}
+use Rattle.numerals.specs.Numerals.{more, decimal}
+use Rattle.counters.specs.declared.Changes.{Changes}
+use Rattle.counters.specs.Counters.{refusalCounted, changed, further, rests, unchanged}
 use Rattle.tally.specs.declared.Tally.{Tally}
 use Rattle.tally.specs.declared.Replay.{Replay}
-use Rattle.numerals.specs.Numerals.{more}
-use Rattle.tally.specs.Report.{row}
-
--- ---- counters
-
--- one more at place i of a row of eight, if it has that place
-unfoldable pub counted : List ℕ → ℕ → List ℕ
-counted r i = if i below 8 then set r i (more (at r i)) else r
-
--- a refusal's number, 1 to 8, or 0
-unfoldable pub refusalCounted : List ℕ → ℕ → List ℕ
-refusalCounted r n = if n below 1 then r else counted r (n - 1)
-
--- a reason, by its number, before and after
-unfoldable pub reasonCounted : List ℕ → ℕ → ℕ → List ℕ
-reasonCounted r before after = if before is after then r else if after below 2 then r else counted r (after - 2)
-
-abbrev pub reasonOf : State → ℕ
-reasonOf x = reasonNumber (x .outcome .reason)
-
-unfoldable pub changed : Changes → Port → Port → Changes
-changed c p q =
-    record {
-      groups = reasonCounted (c .groups) (reasonOf (p .groups)) (reasonOf (q .groups));
-      flow = reasonCounted (c .flow) (reasonOf (p .flow)) (reasonOf (q .flow));
-      applications = reasonCounted (c .applications) (reasonOf (p .applications)) (reasonOf (q .applications));
-    }
-
-unfoldable pub further : Bool → ℕ → ℕ
-further rest n = if rest then n else more n
-
-unfoldable pub rests : Bool → Port → Port → Bool
-rests rest a b = if rest then true else settled a && settled b
 
 -- ---- a line
 
@@ -126,9 +92,6 @@ finished r = ended withLine (r .tally) (r .held)
 
 -- ---- the start
 
-abbrev pub unchanged : Changes
-unchanged = record { groups = replicate 8 0; flow = replicate 8 0; applications = replicate 8 0 }
-
 unfoldable pub begun : Port → Port → Tally
 begun a b =
     record {
@@ -148,6 +111,12 @@ unfoldable pub started : Port → Port → Replay
 started a b = record { tally = begun a b; held = heldOf [] }
 
 -- ---- the text
+
+-- "decimal numbers parted by one space", and a line feed
+unfoldable pub row : List ℕ → List ℕ
+row [] = []
+row (n ∷ []) = decimal n ++ (10 ∷ [])
+row (n ∷ m ∷ ns) = decimal n ++ (32 ∷ row (m ∷ ns))
 
 unfoldable pub changesText : Changes → List ℕ
 changesText c = row (c .groups) ++ (row (c .flow) ++ row (c .applications))

@@ -15,10 +15,9 @@ use Rattle.octets.specs.Laws.{sets-append}
 use Rattle.octets.specs.Texts.{text}
 use Rattle.numerals.specs.Numerals.{decimal}
 use Rattle.numerals.specs.NumeralLaws.{Laid, laid-both}
-use Rattle.tally.specs.declared.Changes.{Changes}
+use Rattle.counters.specs.declared.Changes.{Changes}
 use Rattle.tally.specs.declared.Tally.{Tally}
-use Rattle.tally.specs.Report.{row}
-use Rattle.tally.specs.Steps.{changesText, settledText, tallyText, reportLength, reportOutput, Reports}
+use Rattle.tally.specs.Steps.{row, changesText, settledText, tallyText, reportLength, reportOutput, Reports}
 
 -- ---- a row of numbers
 

@@ -1,26 +1,16 @@
 // A capture replayed between two ports, and counted (02, E8). Octets are fed in reads of any length; the counts are a value.
 ghost use mathlib.Core.Path.{_≡_};
-ghost use Rattle.port.specs.Replies.{eventReply};
 ghost use Rattle.handling.specs.Handling.{handled};
 ghost use Rattle.capture.specs.Capture.{frameOf};
-ghost use Rattle.tally.specs.Steps.{counted, refusalCounted, reasonCounted, reasonOf, changed, further, rests, fed, finished, started, unchanged, begun};
+ghost use Rattle.tally.specs.Steps.{fed, finished, started, begun};
 ghost use Rattle.tally.specs.StepLaws.{Passes};
 use capture::Form;
 use capture::Held;
-use feature::State;
-use port::Answer;
+use counters::Changes;
 use port::Event;
 use port::Port;
 
 pub mod text;
-
-// How often the reason of each feature of an end became absent, duplicate, bad, waiting, disabled, agreed, not compatible and
-// control twice.
-pub struct Changes {
-    pub groups: [u64; 8],
-    pub flow: [u64; 8],
-    pub applications: [u64; 8],
-}
 
 // Both ports and what was counted. No count goes above 2^64 - 1: it stays there. `frames` counts up to the moment when both ends
 // are settled for the first time, which `settled` says has come.
@@ -43,110 +33,12 @@ pub struct Replay {
     pub held: Held,
 }
 
-// One more at place `i`.
-fn count_at(row: [u64; 8], i: usize) -> [u64; 8]
-    ensures { λ r. ⌜ r ≡ counted row i ⌝ }
-{
-    if 8 <= i {
-        return row;
-    }
-    let mut next = row;
-    next[i] = numerals::more(row[i]);
-    next
-}
-
-// The number of a refusal, and 0 for none.
-fn refusal_of(a: Answer) -> usize
-    ensures { λ r. ⌜ r ≡ eventReply a .number ⌝ }
-{
-    match a {
-        Answer::Refused(why, _) => octets::wide(tlv::refusal_number(why)),
-        Answer::Done(_) => 0,
-    }
-}
-
-// Counts a refusal.
-fn count_refusal(row: [u64; 8], a: Answer) -> [u64; 8]
-    ensures { λ r. ⌜ r ≡ refusalCounted row (eventReply a .number) ⌝ }
-{
-    let n = refusal_of(a);
-    if n < 1 {
-        return row;
-    }
-    count_at(row, n - 1)
-}
-
-// The number of a feature's reason.
-fn reason_of(x: State) -> usize
-    ensures { λ r. ⌜ r ≡ reasonOf x ⌝ }
-{
-    let o = x.outcome;
-    let why = o.reason;
-    octets::wide(feature::reason_number(why))
-}
-
-// Counts a reason that became another one; a reason that stays is not counted.
-fn count_reason(row: [u64; 8], before: usize, after: usize) -> [u64; 8]
-    ensures { λ r. ⌜ r ≡ reasonCounted row before after ⌝ }
-{
-    if before == after {
-        return row;
-    }
-    if after < 2 {
-        return row;
-    }
-    count_at(row, after - 2)
-}
-
-// Counts the reasons of a port's features, before a frame and after it.
-fn count_reasons(c: Changes, p: Port, q: Port) -> Changes
-    ensures { λ r. ⌜ r ≡ changed c p q ⌝ }
-{
-    let groups = c.groups;
-    let flow = c.flow;
-    let applications = c.applications;
-    let g = count_reason(groups, reason_of(p.groups), reason_of(q.groups));
-    let w = count_reason(flow, reason_of(p.flow), reason_of(q.flow));
-    let a = count_reason(
-        applications,
-        reason_of(p.applications),
-        reason_of(q.applications),
-    );
-    Changes {
-        groups: g,
-        flow: w,
-        applications: a,
-    }
-}
-
-// Counts a frame, up to the moment when both ends are settled.
-fn count_further(settled: bool, frames: u64) -> u64
-    ensures { λ r. ⌜ r ≡ further settled frames ⌝ }
-{
-    if settled {
-        return frames;
-    }
-    numerals::more(frames)
-}
-
-// Whether both ends are settled, or were before.
-fn at_rest(settled: bool, a: Port, b: Port) -> bool
-    ensures { λ r. ⌜ r ≡ rests settled a b ⌝ }
-{
-    if settled {
-        return true;
-    }
-    let of_a = events::settled(a);
-    let of_b = events::settled(b);
-    of_a & of_b
-}
-
 // Handles the frame of a line.
 fn handle(p: Port, line: &[u8]) -> Event
     ensures { λ r. ⌜ r ≡ handled p (frameOf (now (line .entry))) ⌝ }
 {
-    let n = script::frame_length(line);
-    let frame = script::frame_octets(line);
+    let n = words::frame_length(line);
+    let frame = words::frame_octets(line);
     handling::handle(p, octets::first(&frame, n))
 }
 
@@ -178,13 +70,13 @@ fn pass_lines<'a>(start: Tally, front: &'a [u8], s: &'a [u8]) -> Passed
                 let answer = e.answer;
                 t.from_a = numerals::more(t.from_a);
                 let row = t.refusals;
-                let at_b = count_refusal(row, answer);
+                let at_b = counters::count_refusal(row, answer);
                 t.refusals = at_b;
-                t.of_b = count_reasons(t.of_b, t.b, e.port);
+                t.of_b = counters::count_reasons(t.of_b, t.b, e.port);
                 let port = e.port;
                 t.b = port;
-                t.frames = count_further(t.settled, t.frames);
-                t.settled = at_rest(t.settled, t.a, t.b);
+                t.frames = counters::count_further(t.settled, t.frames);
+                t.settled = counters::at_rest(t.settled, t.a, t.b);
                 continue;
             }
             Form::FromB => {
@@ -192,13 +84,13 @@ fn pass_lines<'a>(start: Tally, front: &'a [u8], s: &'a [u8]) -> Passed
                 let answer = e.answer;
                 t.from_b = numerals::more(t.from_b);
                 let row = t.refusals;
-                let at_a = count_refusal(row, answer);
+                let at_a = counters::count_refusal(row, answer);
                 t.refusals = at_a;
-                t.of_a = count_reasons(t.of_a, t.a, e.port);
+                t.of_a = counters::count_reasons(t.of_a, t.a, e.port);
                 let port = e.port;
                 t.a = port;
-                t.frames = count_further(t.settled, t.frames);
-                t.settled = at_rest(t.settled, t.a, t.b);
+                t.frames = counters::count_further(t.settled, t.frames);
+                t.settled = counters::at_rest(t.settled, t.a, t.b);
                 continue;
             }
             Form::Other => {
@@ -210,21 +102,11 @@ fn pass_lines<'a>(start: Tally, front: &'a [u8], s: &'a [u8]) -> Passed
     Passed { tally: t, at: at }
 }
 
-fn unchanged() -> Changes
-    ensures { λ r. ⌜ r ≡ unchanged ⌝ }
-{
-    Changes {
-        groups: [0; 8],
-        flow: [0; 8],
-        applications: [0; 8],
-    }
-}
-
 fn begin(a: Port, b: Port) -> Tally
     ensures { λ r. ⌜ r ≡ begun a b ⌝ }
 {
-    let of_a = unchanged();
-    let of_b = unchanged();
+    let of_a = counters::unchanged();
+    let of_b = counters::unchanged();
     let settled_a = events::settled(a);
     let settled_b = events::settled(b);
     Tally {

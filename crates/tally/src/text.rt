@@ -4,11 +4,10 @@ ghost use mathlib.Core.List.{[], _∷_};
 ghost use Prim.Native.Nat.{_+_, _*_, _≤_};
 ghost use lib.ListN.{length};
 ghost use Rattle.numerals.specs.NumeralLaws.{Laid};
-ghost use Rattle.tally.specs.Report.{row};
-ghost use Rattle.tally.specs.Steps.{changesText, settledText, Reports};
+ghost use Rattle.tally.specs.Steps.{row, changesText, settledText, Reports};
 ghost use Rattle.tally.specs.TextLaws.{behind};
-use crate::Changes;
 use crate::Tally;
+use counters::Changes;
 
 const SPACE: u8 = 32;
 

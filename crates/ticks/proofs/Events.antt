@@ -18,12 +18,15 @@ use Rattle.feature.specs.declared.Setting.{Setting}
 use Rattle.feature.specs.declared.Switches.{Switches}
 use Rattle.feature.specs.declared.State.{State}
 use Rattle.feature.specs.Outcome.{Received, lower, outcome}
-use Rattle.feature.specs.State.{next, freshAt, withOutcome, present, subTlv, acknowledged, received, differing, changed, marked, settingOf, sameSetting, judgedAgain, reset}
-use Rattle.feature.specs.StateLaws.{changed-shown}
+use Rattle.machine.specs.State.{next, freshAt, withOutcome, present, subTlv, differing, changed, marked, settingOf, sameSetting, judgedAgain, reset}
+use Rattle.turn.specs.Turn.{acknowledged, received}
+use Rattle.machine.specs.StateLaws.{changed-shown}
 use Rattle.port.specs.declared.Port.{Port}
 use Rattle.port.specs.declared.Raised.the-variants as raised
 use Rattle.port.specs.Parts.{featureOf, some, withControl, release, running}
-use Rattle.events.specs.PortEvents.{withSeq, unacknowledged, raisesSeqNo, sent, event, unchanged, refused, step5, completed, withFeature, withSetting, freshPort, settingChanged, setTo, changedFeature, changedApplications, changedSetting}
+use Rattle.sending.specs.Sending.{withSeq, unacknowledged, raisesSeqNo, sent, step5, completed, freshPort}
+use Rattle.events.specs.PortEvents.{event, unchanged, refused}
+use Rattle.changes.specs.Changes.{withFeature, withSetting, settingChanged, setTo, changedFeature, changedApplications, changedSetting}
 use Rattle.handling.specs.Handling.{Message, met, exchanged, once, withBroken}
 use Rattle.handling.proofs.Tests.{or-cases}
 use Rattle.handling.proofs.Fresh.{Alike, sent-alike, runs-alike, fresh-setting}

@@ -8,25 +8,26 @@ use mathlib.Core.List.{List, []}
 use lib.ListN.{length}
 use borrow.Author.Tests.{eq-eqb}
 use Rattle.octets.specs.Octets.{at, headed}
-use Rattle.tlv.specs.declared.Contents.{Contents}
-use Rattle.tlv.specs.declared.Found.{Found}
-use Rattle.tlv.specs.Layout.{valueOf}
+use Rattle.contents.specs.declared.Contents.{Contents}
+use Rattle.contents.specs.declared.Found.{Found}
+use Rattle.contents.specs.Contents.{valueOf}
 use Rattle.parameters.specs.declared.Feature.{Feature}
 use Rattle.parameters.specs.Parameters.{featureNumber}
 use Rattle.feature.specs.declared.Switches.{Switches}
 use Rattle.feature.specs.declared.State.{State}
 use Rattle.feature.specs.Outcome.{Received, lower}
-use Rattle.feature.specs.State.{present, value, releaseTlv, subTlv}
+use Rattle.machine.specs.State.{present, value, releaseTlv, subTlv}
 use Rattle.port.specs.declared.Port.{Port}
 use Rattle.port.specs.Parts.{featureOf, releasedOf, running}
 use Rattle.port.specs.Writing.{releasedTlv, frame}
 use Rattle.port.specs.Sound.{SoundPort, InStep}
-use Rattle.events.specs.PortEvents.{changedSetting, completed}
+use Rattle.changes.specs.Changes.{changedSetting}
+use Rattle.sending.specs.Sending.{completed}
 use Rattle.handling.specs.Handling.{Message, message, hasOf, exchanged, once, steps1to4, frameEvent, accepted, breaks, withBroken, rejected, given, handled}
 use Rattle.handling.proofs.Soundness.{once-kept, completed-sound}
 use Rattle.handling.proofs.Standing.{Standing, rejected-sound, rejected-in-step, setting-stands}
 use Rattle.handling.proofs.Waiting.{steps-in-step}
-use Rattle.exchange.specs.Rounds.{RefusesFrame}
+use Rattle.rounds.specs.Rounds.{RefusesFrame}
 use Rattle.exchange.proofs.Core as core
 use Rattle.exchange.proofs.View.{Kept, runs-same, kept-once}
 use Rattle.exchange.proofs.Frames as frames

@@ -4,7 +4,7 @@ use mathlib.Core.Path.{_≡_, refl, sym, ap, _∙_, subst}
 use mathlib.Core.List.{List, [], _∷_, _++_, append-assoc}
 use mathlib.Core.Option.{some}
 use Rattle.parameters.specs.declared.Feature.{Feature}
-use Rattle.exchange.specs.Rounds.{End, other, Ends, handles}
+use Rattle.rounds.specs.Rounds.{End, other, Ends, handles}
 use Rattle.ticks.specs.Ticks.{Happening, call, portOf, frameOf, happened, after, presentTlv, PastStep3, Carries, Throughout, Told}
 
 pub after-append : (xs ys : List Happening) (c : Ends) → after (xs ++ ys) c ≡ after ys (after xs c)

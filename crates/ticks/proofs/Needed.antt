@@ -9,26 +9,33 @@ use lib.ListN.{length, getD}
 use lib.Dec.{lit<}
 use Rattle.octets.specs.Octets.{same}
 use Rattle.tlv.specs.Layout as layout
-use Rattle.tlv.specs.Layout.{walked, readFrame}
+use Rattle.contents.specs.Contents as contents
+use Rattle.reading.specs.Reading as reading
+use Rattle.reading.specs.Reading.{walked, readFrame}
 use Rattle.tlv.specs.Revisions as revisions
+use Rattle.reading.specs.Revisions as revising
 use Rattle.tlv.specs.declared.Revision.the-variants.{Rev101}
-use Rattle.tlv.specs.declared.Reading.the-variants.{Accepted}
-use Rattle.tlv.specs.declared.Contents.{Contents}
+use Rattle.contents.specs.declared.Reading.the-variants.{Accepted}
+use Rattle.contents.specs.declared.Contents.{Contents}
 use Rattle.parameters.specs.declared.Feature.{Feature}
 use Rattle.parameters.specs.declared.Feature.the-variants.{Groups, Flow, Applications}
 use Rattle.parameters.specs.Parameters as parameters
 use Rattle.feature.specs.declared.Switches.{Switches}
 use Rattle.feature.specs.Outcome as rules
-use Rattle.feature.specs.State as state
+use Rattle.machine.specs.State as machine
+use Rattle.turn.specs.Turn as turn
 use Rattle.port.specs.declared.Port.{Port}
 use Rattle.port.specs.declared.Versions.{Versions}
 use Rattle.port.specs.Parts.{maxOf, switchedOff}
 use Rattle.port.specs.Writing as writing
-use Rattle.events.specs.PortEvents as events
+use Rattle.creation.specs.Creation as creation
+use Rattle.sending.specs.Sending as sending
+use Rattle.flags.specs.Flags as flags
+use Rattle.changes.specs.Changes as changes
 use Rattle.handling.specs.Handling as handling
 use Rattle.handling.specs.Handling.{hasOf}
-use Rattle.exchange.specs.Rounds as ends
-use Rattle.exchange.specs.Rounds.{End, left, right, other, Ends, writes, handles, Accepts}
+use Rattle.rounds.specs.Rounds as ends
+use Rattle.rounds.specs.Rounds.{End, left, right, other, Ends, writes, handles, Accepts}
 use Rattle.exchange.specs.Demand3.{Begun}
 use Rattle.exchange.proofs.NotEmpty.{lent}
 use Rattle.exchange.proofs.Restarts.{created-starts}
@@ -90,7 +97,7 @@ desired Flow = 8 ∷ 8 ∷ []
 desired Applications = []
 
 unfoldable created : Port
-created = events.createdPort versions switches desired
+created = creation.createdPort versions switches desired
 
 unfoldable start : Ends
 start = record { l = created; r = created; from-l = none; from-r = none }
@@ -102,7 +109,7 @@ small Flow = lit< tt
 small Applications = lit< tt
 
 begun : Begun start
-unfolding start created desired versions revisions.hasApplications events.settingsValid parameters.validLocal parameters.localValues parameters.valid parameters.validGroups parameters.validFlow parameters.validApplications parameters.isOurs parameters.oursOf parameters.ours parameters.fewAndNew parameters.goodHalves parameters.sum parameters.allFrom parameters.newName parameters.sameName parameters.ones
+unfolding start created desired versions revisions.hasApplications creation.settingsValid parameters.validLocal parameters.localValues parameters.valid parameters.validGroups parameters.validFlow parameters.validApplications parameters.isOurs parameters.oursOf parameters.ours parameters.fewAndNew parameters.goodHalves parameters.sum parameters.allFrom parameters.newName parameters.sameName parameters.ones
 begun =
     record {
       l = created-starts versions switches desired (lit< tt) small refl (λ e. absurd (false≢true (sym e)));
@@ -126,15 +133,15 @@ abbrev present : List ℕ
 present = 6 ∷ 6 ∷ 0 ∷ 0 ∷ 128 ∷ 0 ∷ 8 ∷ 4 ∷ []
 
 frame-written : (happened (call (writes left lent)) start .from-l ≡ some written) × Accepts (start .l) lent
-unfolding start created desired versions switches on lent parameters.featureNumber parameters.isOurs parameters.oursOf parameters.ours parameters.stored parameters.content state.freshAt state.releaseTlv writing.subTlvs writing.frame writing.written writing.output events.unacknowledged events.raisesSeqNo events.sent events.started ends.afterWrite ends.exec happened
+unfolding start created desired versions switches on lent parameters.featureNumber parameters.isOurs parameters.oursOf parameters.ours parameters.stored parameters.content machine.freshAt machine.releaseTlv writing.subTlvs writing.frame writing.written writing.output sending.unacknowledged sending.raisesSeqNo sending.sent creation.started ends.afterWrite ends.exec happened
 frame-written = (refl, (26, refl))
 
 written-read : readFrame written ≡ Accepted (walked written .contents)
-unfolding layout.headAt layout.foundAgain layout.counts layout.noted layout.onward layout.walkFrom layout.walked layout.isDcbx layout.judgedControl layout.readFrame same
+unfolding layout.headAt contents.foundAgain contents.counts contents.noted reading.onward reading.walkFrom reading.walked layout.isDcbx reading.judgedControl reading.readFrame same
 written-read = refl
 
 last-octet : getD (hasOf written (walked written .contents) Flow .value) 5 0 ≡ 8
-unfolding layout.headAt layout.foundAgain layout.counts layout.noted layout.onward layout.walkFrom layout.walked
+unfolding layout.headAt contents.foundAgain contents.counts contents.noted reading.onward reading.walkFrom reading.walked
 last-octet = refl
 
 -- 8 classes are not 4
@@ -192,11 +199,11 @@ module _ (this : Ends → Ends) where
           (not-handled left Flow t _ _ _ (λ e. absurd (false≢true cc)) (none-handled left Flow t _))
 
 restarted-computed : Computed restarted
-unfolding first second restarted start created desired versions switches on lent layout.headAt layout.foundAgain layout.counts layout.noted layout.onward layout.walkFrom layout.walked layout.isDcbx layout.judgedControl layout.readFrame revisions.hasApplications revisions.skipping revisions.readFor parameters.featureNumber parameters.goodHalves parameters.sum parameters.validGroups parameters.validFlow parameters.sameName parameters.allFrom parameters.newName parameters.validApplications parameters.valid parameters.ones parameters.localValues parameters.validLocal parameters.clash parameters.clearOf parameters.compatible parameters.isOurs parameters.oursOf parameters.ours parameters.fewAndNew parameters.stored parameters.content parameters.sameParameters rules.judged rules.outcome state.freshAt state.releaseTlv state.acknowledged state.received state.differing state.marked state.sameSetting state.judgedAgain state.reset writing.subTlvs writing.frame writing.toWrite writing.asks writing.written writing.output events.unacknowledged events.raisesSeqNo events.sent events.started events.freshPort events.restarts events.flagSet events.flagged events.settingChanged events.setTo events.changedFeature events.changedApplications events.changedSetting handling.exchanged handling.once handling.steps1to4 handling.breaks handling.rejected handling.frameEvent handling.accepted handling.given handling.handled ends.other ends.afterWrite ends.delivered ends.exec happened after same
+unfolding first second restarted start created desired versions switches on lent layout.headAt contents.foundAgain contents.counts contents.noted reading.onward reading.walkFrom reading.walked layout.isDcbx reading.judgedControl reading.readFrame revisions.hasApplications revising.skipping revising.readFor parameters.featureNumber parameters.goodHalves parameters.sum parameters.validGroups parameters.validFlow parameters.sameName parameters.allFrom parameters.newName parameters.validApplications parameters.valid parameters.ones parameters.localValues parameters.validLocal parameters.clash parameters.clearOf parameters.compatible parameters.isOurs parameters.oursOf parameters.ours parameters.fewAndNew parameters.stored parameters.content parameters.sameParameters rules.judged rules.outcome machine.freshAt machine.releaseTlv turn.acknowledged turn.received machine.differing machine.marked machine.sameSetting machine.judgedAgain machine.reset writing.subTlvs writing.frame writing.toWrite writing.asks writing.written writing.output sending.unacknowledged sending.raisesSeqNo sending.sent creation.started sending.freshPort flags.restarts flags.flagSet flags.flagged changes.settingChanged changes.setTo changes.changedFeature changes.changedApplications changes.changedSetting handling.exchanged handling.once handling.steps1to4 handling.breaks handling.rejected handling.frameEvent handling.accepted handling.given handling.handled ends.other ends.afterWrite ends.delivered ends.exec happened after same
 restarted-computed = record { accepts = (26, refl); advertised = refl; syncd = refl; tlv = refl }
 
 gone-computed : Computed gone
-unfolding first second gone start created desired versions switches on lent layout.headAt layout.foundAgain layout.counts layout.noted layout.onward layout.walkFrom layout.walked layout.isDcbx layout.judgedControl layout.readFrame revisions.hasApplications revisions.skipping revisions.readFor parameters.featureNumber parameters.goodHalves parameters.sum parameters.validGroups parameters.validFlow parameters.sameName parameters.allFrom parameters.newName parameters.validApplications parameters.valid parameters.ones parameters.localValues parameters.validLocal parameters.clash parameters.clearOf parameters.compatible parameters.isOurs parameters.oursOf parameters.ours parameters.fewAndNew parameters.stored parameters.content parameters.sameParameters rules.judged rules.outcome state.freshAt state.releaseTlv state.acknowledged state.received state.differing state.marked state.sameSetting state.judgedAgain state.reset writing.subTlvs writing.frame writing.toWrite writing.asks writing.written writing.output events.unacknowledged events.raisesSeqNo events.sent events.started events.freshPort events.peerGone events.settingChanged events.setTo events.changedFeature events.changedApplications events.changedSetting handling.exchanged handling.once handling.steps1to4 handling.breaks handling.rejected handling.frameEvent handling.accepted handling.given handling.handled ends.other ends.afterWrite ends.delivered ends.exec happened after same
+unfolding first second gone start created desired versions switches on lent layout.headAt contents.foundAgain contents.counts contents.noted reading.onward reading.walkFrom reading.walked layout.isDcbx reading.judgedControl reading.readFrame revisions.hasApplications revising.skipping revising.readFor parameters.featureNumber parameters.goodHalves parameters.sum parameters.validGroups parameters.validFlow parameters.sameName parameters.allFrom parameters.newName parameters.validApplications parameters.valid parameters.ones parameters.localValues parameters.validLocal parameters.clash parameters.clearOf parameters.compatible parameters.isOurs parameters.oursOf parameters.ours parameters.fewAndNew parameters.stored parameters.content parameters.sameParameters rules.judged rules.outcome machine.freshAt machine.releaseTlv turn.acknowledged turn.received machine.differing machine.marked machine.sameSetting machine.judgedAgain machine.reset writing.subTlvs writing.frame writing.toWrite writing.asks writing.written writing.output sending.unacknowledged sending.raisesSeqNo sending.sent creation.started sending.freshPort flags.peerGone changes.settingChanged changes.setTo changes.changedFeature changes.changedApplications changes.changedSetting handling.exchanged handling.once handling.steps1to4 handling.breaks handling.rejected handling.frameEvent handling.accepted handling.given handling.handled ends.other ends.afterWrite ends.delivered ends.exec happened after same
 gone-computed = record { accepts = (26, refl); advertised = refl; syncd = refl; tlv = refl }
 
 pub restart-breaks : Breaks restarted

@@ -10,14 +10,14 @@ use Rattle.feature.specs.declared.Switches.{Switches}
 use Rattle.notices.specs.Notices.{PortNumber}
 use Rattle.notices.specs.PortLaws.{port-is}
 use Rattle.port.specs.Parts.{featureOf}
-use Rattle.events.specs.PortEvents.{changedSetting}
+use Rattle.changes.specs.Changes.{changedSetting}
 use Rattle.recorder.specs.declared.Recorder.{Recorder}
 use Rattle.recorder.specs.Recorder.{portAt, happens, changed}
-use Rattle.recorder.specs.Calls as recorder
-use Rattle.recorder.specs.Calls.{eventOf, afterAt}
-use Rattle.recorder.proofs.Independent.{own-after}
-use Rattle.exchange.specs.Rounds.{End, left, right, Ends, Call, Round, rounds}
-use Rattle.exchange.specs.Rounds as calls
+use Rattle.calls.specs.Calls as recorder
+use Rattle.calls.specs.Calls.{eventOf, afterAt}
+use Rattle.calls.proofs.Independent.{own-after}
+use Rattle.rounds.specs.Rounds.{End, left, right, Ends, Call, Round, rounds}
+use Rattle.rounds.specs.Rounds as calls
 use Rattle.exchange.specs.Demand3.{Begun}
 use Rattle.exchange.specs.Recorders.{Cable, Recorders, ends, called, Joins}
 use Rattle.exchange.specs.Recorders as recorders

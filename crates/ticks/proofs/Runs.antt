@@ -5,14 +5,14 @@ use mathlib.Core.Logic.{_⊎_, inl, inr}
 use mathlib.Core.List.{List, [], _∷_, _++_, append-nil, append-assoc}
 use mathlib.Core.Option.{Option, none, some}
 use Rattle.parameters.specs.declared.Feature.{Feature}
-use Rattle.feature.specs.State.{subTlv}
+use Rattle.machine.specs.State.{subTlv}
 use Rattle.port.specs.declared.Port.{Port}
 use Rattle.port.specs.Parts.{featureOf}
 use Rattle.port.specs.Writing as writing
 use Rattle.port.specs.Sound.{SoundPort}
 use Rattle.handling.specs.Handling.{handled}
-use Rattle.exchange.specs.Rounds.{End, left, right, other, Ends, refused, write, frame, writes, handles, afterWrite, onItsWay, delivered, exec, Accepts, RefusesWrite, Answers}
-use Rattle.exchange.specs.Rounds as ports
+use Rattle.rounds.specs.Rounds.{End, left, right, other, Ends, refused, write, frame, writes, handles, afterWrite, onItsWay, delivered, exec, Accepts, RefusesWrite, Answers}
+use Rattle.rounds.specs.Rounds as ports
 use Rattle.exchange.specs.Demand3.{Begun}
 use Rattle.exchange.proofs.Calls.{write-leaves}
 use Rattle.ticks.specs.Ticks.{Happening, sets, call, portOf, frameOf, happened, after, Proper, presentTlv, PastStep3, Carries, Told}

@@ -9,10 +9,10 @@ use Rattle.parameters.specs.declared.Feature.{Feature}
 use Rattle.parameters.specs.declared.Feature.the-variants.{Groups, Flow, Applications}
 use Rattle.feature.specs.declared.Setting.{Setting}
 use Rattle.feature.specs.declared.State.{State}
-use Rattle.feature.specs.State.{next, freshAt, fresh}
+use Rattle.machine.specs.State.{next, freshAt, fresh}
 use Rattle.port.specs.declared.Port.{Port}
 use Rattle.port.specs.Parts.{featureOf}
-use Rattle.events.specs.PortEvents.{sent, freshParts, freshPort}
+use Rattle.sending.specs.Sending.{sent, freshParts, freshPort}
 use Rattle.handling.proofs.Fresh.{fresh-setting}
 use Rattle.handling.proofs.Waiting.{fresh-in-step}
 use Rattle.exchange.specs.Demand3.{JustStarted}

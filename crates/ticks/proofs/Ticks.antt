@@ -7,8 +7,8 @@ use mathlib.Core.List.{List, [], _∷_, map}
 use lib.ListN.{length}
 use Rattle.parameters.specs.declared.Feature.{Feature}
 use Rattle.port.specs.Parts.{featureOf}
-use Rattle.exchange.specs.Rounds.{End, left, right, Ends, Call, Round, rounds, exec, execAll}
-use Rattle.exchange.specs.Rounds as ports
+use Rattle.rounds.specs.Rounds.{End, left, right, Ends, Call, Round, rounds, exec, execAll}
+use Rattle.rounds.specs.Rounds as ports
 use Rattle.exchange.specs.Demand3.{Begun, BothAgreed}
 use Rattle.exchange.proofs.Core.{Settings, advertised}
 use Rattle.exchange.proofs.View.{settings}

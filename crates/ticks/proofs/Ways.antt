@@ -7,7 +7,7 @@ use mathlib.Core.Bool.{true, false, false≢true}
 use mathlib.Core.List.{List}
 use mathlib.Core.Option.{Option, none, some}
 use Rattle.parameters.specs.declared.Feature.{Feature}
-use Rattle.feature.specs.State.{next, subTlv}
+use Rattle.machine.specs.State.{next, subTlv}
 use Rattle.port.specs.declared.Port.{Port}
 use Rattle.port.specs.Parts.{featureOf}
 use Rattle.port.specs.Writing.{releasedTlv, frame}

@@ -3,8 +3,8 @@ use mathlib.Core.Bool.{true, false}
 use mathlib.Core.List.{List}
 use Rattle.parameters.specs.declared.Feature.{Feature}
 use Rattle.port.specs.declared.Flag.the-variants.{Admin}
-use Rattle.events.specs.PortEvents.{flagged, peerGone}
-use Rattle.exchange.specs.Rounds.{left, Ends}
+use Rattle.flags.specs.Flags.{flagged, peerGone}
+use Rattle.rounds.specs.Rounds.{left, Ends}
 use Rattle.exchange.specs.Demand3.{Begun}
 use Rattle.ticks.specs.Ticks.{Happening, after, Proper, Ticked, presentTlv, Handled}
 

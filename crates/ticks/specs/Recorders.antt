@@ -6,9 +6,9 @@ use mathlib.Core.List.{List, [], _∷_, map}
 use lib.ListN.{length}
 use Rattle.parameters.specs.declared.Feature.{Feature}
 use Rattle.port.specs.Parts.{featureOf}
-use Rattle.recorder.specs.Calls as recorder
-use Rattle.exchange.specs.Rounds.{End, Call, Answers, Round, rounds}
-use Rattle.exchange.specs.Rounds as calls
+use Rattle.calls.specs.Calls as recorder
+use Rattle.rounds.specs.Rounds.{End, Call, Answers, Round, rounds}
+use Rattle.rounds.specs.Rounds as calls
 use Rattle.exchange.specs.Recorders.{Cable, numberAt, Recorders, recorderAt, ends, operated, spares}
 use Rattle.exchange.specs.Recorders as recorders
 use Rattle.ticks.specs.Ticks.{Happening, sets, call, portOf, Ticked, presentTlv, Handled, Told, after}

@@ -7,21 +7,21 @@ use mathlib.Core.List.{List, [], _∷_, _++_, map}
 use mathlib.Core.Option.{Option, some}
 use lib.ListN.{length}
 use Rattle.octets.specs.Octets.{headed}
-use Rattle.tlv.specs.declared.Contents.{Contents}
-use Rattle.tlv.specs.declared.Reading.the-variants.{Accepted}
-use Rattle.tlv.specs.Layout.{readFrame}
-use Rattle.tlv.specs.Revisions.{readFor}
+use Rattle.contents.specs.declared.Contents.{Contents}
+use Rattle.contents.specs.declared.Reading.the-variants.{Accepted}
+use Rattle.reading.specs.Reading.{readFrame}
+use Rattle.reading.specs.Revisions.{readFor}
 use Rattle.parameters.specs.declared.Feature.{Feature}
 use Rattle.parameters.specs.Parameters.{featureNumber}
 use Rattle.feature.specs.declared.Switches.{Switches}
 use Rattle.feature.specs.Outcome.{lower}
-use Rattle.feature.specs.State.{subTlv}
+use Rattle.machine.specs.State.{subTlv}
 use Rattle.port.specs.declared.Port.{Port}
 use Rattle.port.specs.Parts.{featureOf, running}
-use Rattle.events.specs.PortEvents.{changedSetting}
+use Rattle.changes.specs.Changes.{changedSetting}
 use Rattle.handling.specs.Handling.{hasOf, message}
-use Rattle.exchange.specs.Rounds.{End, left, right, other, Ends, Call, handles, exec, Answers, Round, rounds}
-use Rattle.exchange.specs.Rounds as ports
+use Rattle.rounds.specs.Rounds.{End, left, right, other, Ends, Call, handles, exec, Answers, Round, rounds}
+use Rattle.rounds.specs.Rounds as ports
 
 -- ---- A run
 
@@ -36,7 +36,7 @@ frameOf right c = c .from-r
 
 -- What happens in a run, "with any settings changes at either", at any time, "and no frames given but each other's, as written", any refused
 -- calls between: the setting of the feature with a number is changed at an end (switches, and parameters as octets), accepted or refused; or a call
--- of an exchange (exchange/Rounds): an accepted write, the frame that the other end wrote last is given to this end, a refused write or frame.
+-- of an exchange (rounds/Rounds): an accepted write, the frame that the other end wrote last is given to this end, a refused write or frame.
 --
 -- Document 02 asks that each frame is given "at once or not at all, none twice": a run in which `handles` follows at once on the write, or does
 -- not follow. The claim is of every list of such calls, which allows more: both ends may write before either is given a frame, as in a round

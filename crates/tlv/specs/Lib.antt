@@ -1,15 +1,4 @@
 pub mod Refusals
 pub mod Layout
-pub mod Replies
-pub mod Halting
 pub mod Revisions
-pub mod Promises
-pub mod Walking
 pub mod Laws
-pub mod ValuesLaws
-pub mod WrittenLaws
-pub mod ReadBackLaws
-pub mod WalkingLaws
-pub mod HaltingLaws
-pub mod RevisionLaws
-pub mod ResumingLaws

@@ -1,4 +1,4 @@
-// The engine for tests and benchmarks alone, built as a static library: a script of steps is run on a recorder, and after each
+// The engine for tests alone: a script of steps is run on a recorder, and after each
 // step the answer and the state are written out, octet by octet. Its functions are proved safe; what the answers and states
 // are is the promise of the crates below, so none is stated here.
 //
@@ -26,9 +26,6 @@
 ghost use Prim.Native.Nat.{_<_, _≤_};
 ghost use lib.ListN.{length};
 
-pub mod place;
-pub mod speed;
-pub mod state;
 pub mod steps;
 
 // Where the step that begins at `from` ends: at the end of the script where it says more.
@@ -37,7 +34,7 @@ fn step_end(script: &[u8], from: usize) -> usize
     ensures { λ r. ⌜ (from < r) × (r ≤ length (now (script .entry))) ⌝ }
 {
     let left = script.len() - from;
-    let size = 2 + place::number2(script, from);
+    let size = 2 + buffer::number2(script, from);
     if left < size {
         return script.len();
     }
@@ -45,8 +42,7 @@ fn step_end(script: &[u8], from: usize) -> usize
 }
 
 // Runs a script and gives the number of octets written; it stops where `out` is full.
-#[no_mangle]
-pub extern "C" fn trial_run(script: &[u8], out: &mut [u8]) -> usize {
+pub fn run(script: &[u8], out: &mut [u8]) -> usize {
     let mut held = recorder::blank();
     let mut at: usize = 0;
     let mut from: usize = 0;

@@ -1,6 +1,4 @@
 // The steps of a script.
-use crate::place;
-use crate::state;
 use feature::State;
 use feature::Switches;
 use notices::Log;
@@ -197,14 +195,14 @@ fn put_told(out: &mut [u8], at: usize, x: Told) -> usize {
         x.notice,
         x.feature,
     ];
-    let behind = place::put_all(out, at, &octets);
-    place::put_all(out, behind, &x.raised)
+    let behind = buffer::put_all(out, at, &octets);
+    buffer::put_all(out, behind, &x.raised)
 }
 
 // Writes the state of port `n`, which is `p`, or nothing where the number is no port's.
 fn put_state(out: &mut [u8], at: usize, n: u8, p: Port) -> usize {
     if is_port(n) {
-        return state::put_port(out, at, p);
+        return dump::put_port(out, at, p);
     }
     at
 }
@@ -213,15 +211,15 @@ fn put_state(out: &mut [u8], at: usize, n: u8, p: Port) -> usize {
 fn tell(out: &mut [u8], at: usize, told: Told, n: u8, p: Port, l: Log) -> usize {
     let port = put_told(out, at, told);
     let log = put_state(out, port, n, p);
-    state::put_log(out, log, l)
+    dump::put_log(out, log, l)
 }
 
 // ---- events
 
 // Creates port `n` in the place of `p`. The parameters are handed on as parts of the step.
 pub fn create(n: u8, p: Port, body: &[u8]) -> Event {
-    let groups = place::number2(body, 8);
-    let flow = place::number2(body, 10);
+    let groups = buffer::number2(body, 8);
+    let flow = buffer::number2(body, 10);
     let all = octets::from(body, 12);
     let behind = octets::from(all, groups);
     recorder::create(
@@ -364,7 +362,7 @@ fn write(n: u8, p: Port, l: Log, room: usize, at: usize, out: &mut [u8]) -> usiz
     if out.len() < at {
         return at;
     }
-    let end = place::part_end(out.len(), at, room);
+    let end = buffer::part_end(out.len(), at, room);
     let w = recorder::write(n, p, &mut out[at..end]);
     tell(out, end, wrote(w), n, p, l)
 }
@@ -378,7 +376,7 @@ pub fn run(p: Port, l: Log, step: &[u8], at: usize, out: &mut [u8]) -> Left {
         return Left {
             port: p,
             log: l,
-            at: write(n, p, l, place::number2(body, 0), at, out),
+            at: write(n, p, l, buffer::number2(body, 0), at, out),
         };
     }
     let g = event(n, p, l, kind, body);
@@ -394,9 +392,9 @@ pub fn run(p: Port, l: Log, step: &[u8], at: usize, out: &mut [u8]) -> Left {
 // Writes that nothing happened, the states of all four ports and the log.
 pub fn look(r: Recorder, at: usize, out: &mut [u8]) -> usize {
     let one = put_told(out, at, done(false, 0, 0, 0));
-    let two = state::put_port(out, one, r.ports[0]);
-    let three = state::put_port(out, two, r.ports[1]);
-    let four = state::put_port(out, three, r.ports[2]);
-    let log = state::put_port(out, four, r.ports[3]);
-    state::put_log(out, log, r.log)
+    let two = dump::put_port(out, one, r.ports[0]);
+    let three = dump::put_port(out, two, r.ports[1]);
+    let four = dump::put_port(out, three, r.ports[2]);
+    let log = dump::put_port(out, four, r.ports[3]);
+    dump::put_log(out, log, r.log)
 }

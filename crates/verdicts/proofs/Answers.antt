@@ -6,14 +6,15 @@ use mathlib.Core.List.{List}
 use Rattle.octets.specs.Words.{if_then_else_, _is_}
 use Rattle.tlv.specs.declared.Refusal.{Refusal}
 use Rattle.tlv.specs.declared.Refusal.the-variants.{NotRunning, SeveralNeighbours, InvalidSetting, UnknownFeature}
-use Rattle.tlv.specs.declared.Reading.{Reading}
-use Rattle.tlv.specs.declared.Reading.the-variants as read
-use Rattle.tlv.specs.Revisions.{hasApplications, readFor}
+use Rattle.contents.specs.declared.Reading.{Reading}
+use Rattle.contents.specs.declared.Reading.the-variants as read
+use Rattle.tlv.specs.Revisions.{hasApplications}
+use Rattle.reading.specs.Revisions.{readFor}
 use Rattle.parameters.specs.declared.Feature.{Feature}
 use Rattle.parameters.specs.declared.Feature.the-variants.{Groups, Flow, Applications}
 use Rattle.parameters.specs.Parameters.{validLocal}
 use Rattle.feature.specs.declared.Switches.{Switches}
-use Rattle.feature.specs.State.{settingOf, sameSetting}
+use Rattle.machine.specs.State.{settingOf, sameSetting}
 use Rattle.port.specs.declared.Answer.{Answer}
 use Rattle.port.specs.declared.Answer.the-variants.{Done, Refused}
 use Rattle.port.specs.declared.Flag.{Flag}
@@ -22,7 +23,10 @@ use Rattle.port.specs.declared.Raised.{Raised}
 use Rattle.port.specs.declared.Raised.the-variants as raised
 use Rattle.port.specs.Parts.{featureOf, flagOf, running}
 use Rattle.port.specs.Writing.{subTlvs, frame, toWrite, asks}
-use Rattle.events.specs.PortEvents.{event, unchanged, refused, flagNotice, flagSet, flagged, freshPort, peerGone, settingChanged, setTo, changedFeature, changedApplications, changedSetting}
+use Rattle.events.specs.PortEvents.{event, unchanged, refused}
+use Rattle.flags.specs.Flags.{flagNotice, flagSet, flagged, peerGone}
+use Rattle.sending.specs.Sending.{freshPort}
+use Rattle.changes.specs.Changes.{settingChanged, setTo, changedFeature, changedApplications, changedSetting}
 use Rattle.handling.specs.Handling.{frameEvent, breaks, withBroken, accepted, rejected, given, handled}
 use Rattle.recorder.specs.declared.Change.{Change}
 use Rattle.recorder.specs.declared.Change.the-variants as change

@@ -16,19 +16,19 @@ use Rattle.feature.specs.declared.Switches.{Switches}
 use Rattle.port.specs.declared.Flag.{Flag}
 use Rattle.port.specs.declared.Flag.the-variants as flags
 use Rattle.recorder.specs.declared.Change.the-variants as change
-use Rattle.script.specs.declared.forms.Form.{Form}
-use Rattle.script.specs.declared.forms.Form.the-variants as Form
-use Rattle.script.specs.declared.text.Number.the-variants.{Is}
+use Rattle.fields.specs.declared.Form.{Form}
+use Rattle.fields.specs.declared.Form.the-variants as Form
+use Rattle.words.specs.declared.Number.the-variants.{Is}
 use Rattle.script.specs.declared.Kind.{Kind}
 use Rattle.script.specs.declared.Kind.the-variants as Kind
-use Rattle.script.specs.Text.{isDigit, nibble, hexDigits, isOctets, pairAt, listed, octetsOf, ended, wordsFrom, words, first, others, decimalDigits, decimalFrom, isNumber, number}
-use Rattle.script.specs.Text as spelling
-use Rattle.script.specs.Forms.{nameText, said, fieldNumber, switches, fields, due, mayEnd, onward, valuesFrom, valuesOf}
-use Rattle.script.specs.Lines.{filled, lineOf, returned, settingKind, settingWith, plain, alone, flagBit, flag, formOf, numbered, changeOf, eventOf, keyword, isFrame, eventLine}
+use Rattle.words.specs.Text.{isDigit, nibble, hexDigits, isOctets, pairAt, listed, octetsOf, ended, wordsFrom, words, first, others, decimalDigits, decimalFrom, isNumber, number, filled}
+use Rattle.words.specs.Text as spelling
+use Rattle.fields.specs.Forms.{nameText, said, fieldNumber, switches, fields, due, mayEnd, onward, valuesFrom, valuesOf}
+use Rattle.script.specs.Lines.{lineOf, returned, settingKind, settingWith, plain, alone, flagBit, flag, formOf, numbered, changeOf, eventOf, keyword, isFrame, eventLine}
 use Rattle.script.specs.Lines as script
 use Rattle.capture.specs.Capture as capture
 use Rattle.numerals.specs.Numerals.{digitsOf, decimal}
-use Rattle.conformance.specs.Conformance.{Sent, Given, Changed, flagOf, toldBy, entryBy, entryAs, entryOf}
+use Rattle.judgement.specs.Entries.{Sent, Given, Changed, flagOf, toldBy, entryBy, entryAs, entryOf}
 use Rattle.verdicts.specs.Transcripts.{hexDigit, hexOf, sentLine, givenLine, spaced, bitWord, flagWord, parameterWords, settingWords, OctetsWithin}
 
 -- ---- hex digits are read back

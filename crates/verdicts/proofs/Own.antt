@@ -21,14 +21,16 @@ use Rattle.port.specs.Parts.{running}
 use Rattle.port.specs.Replies.{bit}
 use Rattle.port.specs.Writing.{frame}
 use Rattle.port.specs.Writing as writing
-use Rattle.events.specs.PortEvents.{created, blankPort}
+use Rattle.creation.specs.Creation.{created, blankPort}
 use Rattle.handling.proofs.Standing.{Standing}
 use Rattle.recorder.specs.declared.Change.{Change}
 use Rattle.recorder.specs.declared.Change.the-variants as change
 use Rattle.recorder.specs.Recorder.{happens, changed, written, output}
-use Rattle.recorder.specs.Calls.{Operation, eventOf}
-use Rattle.recorder.specs.Calls as call
-use Rattle.conformance.specs.Conformance.{Entry, Sent, Given, Changed, Passed, entryOf, portAfter, isDue, other, Accepted, isSent, verdictAt, verdictFrom}
+use Rattle.calls.specs.Calls.{Operation, eventOf}
+use Rattle.calls.specs.Calls as call
+use Rattle.comparison.specs.Comparison.{isDue}
+use Rattle.judgement.specs.Entries.{Entry, Sent, Given, Changed, Passed, entryOf, portAfter, isSent}
+use Rattle.conformance.specs.Conformance.{other, Accepted, verdictAt, verdictFrom}
 use Rattle.verdicts.specs.Transcripts.{sentLine, givenLine, spaced, flagWord, bitWord, settingWords, writtenLines, linesOf, Act, Call, Line, portPast, linesAt, captureOf, hasWritten, wrote, writesIn, OctetsWithin, Sayable, AllSayable, SettingsInRange, Own}
 use Rattle.verdicts.proofs.Exact.{is-same}
 use Rattle.verdicts.proofs.Calls.{sent-line, given-line, gone-line, flag-line, setting-line}

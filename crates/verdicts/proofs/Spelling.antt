@@ -11,11 +11,12 @@ use Rattle.octets.specs.Words.{if_then_else_, _below_, _is_}
 use Rattle.octets.specs.Octets.{at, head, headed}
 use Rattle.tlv.specs.declared.Refusal.{Refusal}
 use Rattle.tlv.specs.declared.Refusal.the-variants.{NotRunning, SeveralNeighbours, InvalidSetting, UnknownFeature}
-use Rattle.tlv.specs.declared.Contents.{Contents}
-use Rattle.tlv.specs.declared.Reading.{Reading}
-use Rattle.tlv.specs.declared.Reading.the-variants.{Refused, Accepted}
+use Rattle.contents.specs.declared.Contents.{Contents}
+use Rattle.contents.specs.declared.Reading.{Reading}
+use Rattle.contents.specs.declared.Reading.the-variants.{Refused, Accepted}
 use Rattle.tlv.specs.Layout.{frameHead}
-use Rattle.tlv.specs.Revisions.{hasApplications, readFor}
+use Rattle.tlv.specs.Revisions.{hasApplications}
+use Rattle.reading.specs.Revisions.{readFor}
 use Rattle.parameters.specs.declared.Feature.{Feature}
 use Rattle.parameters.specs.declared.Feature.the-variants.{Groups, Flow, Applications}
 use Rattle.parameters.specs.declared.Parameters.{Parameters}
@@ -25,7 +26,8 @@ use Rattle.feature.specs.declared.Switches.{Switches}
 use Rattle.feature.specs.declared.State.{State}
 use Rattle.feature.specs.declared.Release.{Release}
 use Rattle.feature.specs.Outcome.{Received, lower}
-use Rattle.feature.specs.State.{next, fresh, stopped, flags, value, releaseTlv, controlTwice, acknowledged, received, changed, marked, settingOf, sameSetting, reset}
+use Rattle.machine.specs.State.{next, fresh, stopped, flags, value, releaseTlv, changed, marked, settingOf, sameSetting, reset}
+use Rattle.turn.specs.Turn.{controlTwice, acknowledged, received}
 use Rattle.port.specs.declared.Control.{Control}
 use Rattle.port.specs.declared.Flag.{Flag}
 use Rattle.port.specs.declared.Flag.the-variants.{Admin, Receive, Transmit, Several}
@@ -37,8 +39,12 @@ use Rattle.port.specs.Parts.{switchedOff, featureOf, releasedOf, withControl, w
 use Rattle.port.specs.Sound.{SoundParameters, SoundControl, SoundRelease, SoundPort}
 use Rattle.port.specs.Writing.{releasedTlv, subTlvs, frame}
 use Rattle.port.specs.WritingLaws.{controlTlv, featureTlvs, frame-longest}
-use Rattle.events.specs.PortEvents.{withSeq, raisesSeqNo, sent, freshParts, freshPort, event, unchanged, refused, restarts, flagNotice, flagSet, flagged, peerGone, step5, completed, withFeature, withSetting, settingChanged, setTo, changedFeature, changedApplications, changedSetting, blankParameters, blankPort, started, createdPort, settingsValid, created, createdWith, versionsFor, switchesFor, parametersFor}
-use Rattle.events.specs.PortEvents as events
+use Rattle.sending.specs.Sending.{withSeq, raisesSeqNo, sent, freshParts, freshPort, step5, completed}
+use Rattle.events.specs.PortEvents.{event, unchanged, refused}
+use Rattle.flags.specs.Flags.{restarts, flagNotice, flagSet, flagged, peerGone}
+use Rattle.changes.specs.Changes.{withFeature, withSetting, settingChanged, setTo, changedFeature, changedApplications, changedSetting}
+use Rattle.creation.specs.Creation.{blankParameters, blankPort, started, createdPort, settingsValid, created, createdWith, versionsFor, switchesFor, parametersFor}
+use Rattle.creation.specs.Creation as creation
 use Rattle.handling.specs.Handling.{Message, message, twice, met, exchanged, once, steps1to4, frameEvent, accepted, rejected, given, handled}
 use Rattle.handling.proofs.Soundness.{Octets}
 use Rattle.handling.proofs.Fresh.{fresh-setting}
@@ -46,27 +52,27 @@ use Rattle.handling.proofs.Standing.{Standing, handled-stands, flagged-stands, 
 use Rattle.recorder.specs.declared.Change.{Change}
 use Rattle.recorder.specs.declared.Change.the-variants as change
 use Rattle.recorder.specs.Recorder.{happens}
-use Rattle.recorder.proofs.Reachable.{versions-small}
-use Rattle.script.specs.declared.forms.Form.{Form}
-use Rattle.script.specs.declared.forms.Form.the-variants as Form
-use Rattle.script.specs.declared.forms.Values.{Values}
-use Rattle.script.specs.declared.text.Number.{Number}
-use Rattle.script.specs.declared.text.Number.the-variants.{Is, Not}
+use Rattle.calls.proofs.Reachable.{versions-small}
+use Rattle.fields.specs.declared.Form.{Form}
+use Rattle.fields.specs.declared.Form.the-variants as Form
+use Rattle.fields.specs.declared.Values.{Values}
+use Rattle.words.specs.declared.Number.{Number}
+use Rattle.words.specs.declared.Number.the-variants.{Is, Not}
 use Rattle.script.specs.declared.Flag as script
 use Rattle.script.specs.declared.Keyword.{Keyword}
 use Rattle.script.specs.declared.Keyword.the-variants as Keyword
 use Rattle.script.specs.declared.Kind.{Kind}
 use Rattle.script.specs.declared.Line as lines
-use Rattle.script.specs.Text.{pairAt, listed, octetsOf, words, first, others, number}
-use Rattle.script.specs.declared.forms.Field.the-variants.{Bit}
-use Rattle.script.specs.Forms.{fieldNumber, entryOctet, groupsOctet, parameterCount, parameterAt, parametersOf, valuesOf}
-use Rattle.script.specs.Lines.{filled, lineOf, bare, returned, settingKind, settingWith, feature, plain, alone, flagBit, flag, writeRoom, write, formOf, numbered, changeOf, eventOf, keyword, isFrame, eventLine}
+use Rattle.words.specs.Text.{pairAt, listed, octetsOf, words, first, others, number, filled}
+use Rattle.fields.specs.declared.Field.the-variants.{Bit}
+use Rattle.fields.specs.Forms.{fieldNumber, entryOctet, groupsOctet, parameterCount, parameterAt, parametersOf, valuesOf}
+use Rattle.script.specs.Lines.{lineOf, bare, returned, settingKind, settingWith, feature, plain, alone, flagBit, flag, writeRoom, write, formOf, numbered, changeOf, eventOf, keyword, isFrame, eventLine}
 use Rattle.capture.specs.declared.Form as forms
 use Rattle.capture.specs.declared.Form.the-variants.{FromA, FromB, Other}
 use Rattle.capture.specs.Capture as capture
-use Rattle.conformance.specs.declared.Told.{Told}
-use Rattle.conformance.specs.declared.Told.the-variants as told
-use Rattle.conformance.specs.Conformance.{Entry, Sent, Given, Changed, Passed, octetsIn, entryBy, toldBy, entryAs, entryOf, portAfter}
+use Rattle.judgement.specs.declared.Told.{Told}
+use Rattle.judgement.specs.declared.Told.the-variants as told
+use Rattle.judgement.specs.Entries.{Entry, Sent, Given, Changed, Passed, octetsIn, entryBy, toldBy, entryAs, entryOf, portAfter}
 use Rattle.verdicts.specs.Transcripts.{OctetsWithin, SettingsInRange}
 
 -- a port's own settings, which alone it writes, are octets, the present ones and those last released
@@ -584,7 +590,7 @@ module _ (v : Versions) (w : Feature → Switches) (o : Feature → List ℕ) (r
       at f = setting-small f (switchesFor (v .revision) w f) (parametersFor (v .revision) o f) (parameters-small v o (r .octets) f)
 
       by : (b : Bool) → settingsValid (parametersFor (v .revision) o) ≡ b
-          → let q : Port = (if b then events.made blankPort (createdPort (versionsFor v) (switchesFor (v .revision) w) (parametersFor (v .revision) o)) else refused InvalidSetting blankPort) .port in
+          → let q : Port = (if b then creation.made blankPort (createdPort (versionsFor v) (switchesFor (v .revision) w) (parametersFor (v .revision) o)) else refused InvalidSetting blankPort) .port in
           Standing q × OwnOctets q
       by false e = (blank-stands, blank-own)
       by true e = (

@@ -8,15 +8,19 @@ use lib.Seq.{take-append-seam}
 use borrow.Author.Tests.{le-ltb}
 use Rattle.octets.specs.Words.{if_then_else_, _below_}
 use Rattle.port.specs.declared.Port.{Port}
-use Rattle.script.specs.Lines.{filled}
+use Rattle.words.specs.Text.{filled}
 use Rattle.capture.specs.Capture.{lines}
 use Rattle.capture.specs.Feeding.{inTurn, joined, heldFed}
 use Rattle.capture.specs.FeedingLaws.{fed-all, finished-all}
-use Rattle.conformance.specs.declared.Course.{Course}
-use Rattle.conformance.specs.declared.Judged.{Judged}
-use Rattle.conformance.specs.Conformance.{Sent, Verdict, verdict, entryOf, octetsIn, portAfter, portBehind, placeIn, other, begun, courseOn, courseFrom}
-use Rattle.conformance.specs.Steps.{rejectedWith, withLine, judgingOf, fed, finished, unjudged, started, verdictOf}
-use Rattle.conformance.specs.StepLaws.{with-clipped}
+use Rattle.judgement.specs.declared.Course.{Course}
+use Rattle.judgement.specs.declared.Judged.{Judged}
+use Rattle.comparison.specs.Comparison.{placeIn}
+use Rattle.judgement.specs.Entries.{Sent, entryOf, octetsIn, portAfter}
+use Rattle.judgement.specs.Courses.{begun, courseOn}
+use Rattle.conformance.specs.Conformance.{Verdict, verdict, portBehind, other, courseFrom}
+use Rattle.judgement.specs.Steps.{rejectedWith, withLine, unjudged}
+use Rattle.conformance.specs.Steps.{judgingOf, fed, finished, started, verdictOf}
+use Rattle.judgement.specs.StepLaws.{with-clipped}
 use Rattle.conformance.specs.Text.{verdictText, saidOutput}
 use Rattle.verdicts.specs.Verdicts.{Due, AllDue, FirstOther, cappedVerdict, judgedOn, Judges}
 use Rattle.verdicts.proofs.Walk.{stateOf, walked, walk, walked-port, walked-course, walked-verdict}

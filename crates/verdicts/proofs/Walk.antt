@@ -14,10 +14,14 @@ use Rattle.port.specs.declared.Port.{Port}
 use Rattle.port.specs.Replies.{bit}
 use Rattle.capture.specs.Feeding.{inTurn}
 use Rattle.numerals.specs.Numerals.{capped, more}
-use Rattle.conformance.specs.declared.Course.{Course}
-use Rattle.conformance.specs.declared.Judged.{Judged}
-use Rattle.conformance.specs.Conformance.{Entry, Sent, Given, Changed, Passed, entryOf, octetsIn, portAfter, portBehind, isDue, placeIn, other, Verdict, Accepted, Rejected, isSent, verdictAt, verdictFrom, sinceBy, takenBy, sentOn, givenOn, changedOn, passedOn, courseOn, courseFrom, begun, beforeOther}
-use Rattle.conformance.specs.Steps.{rejectedWith, sentAt, withEntry, withLine, verdictOf}
+use Rattle.judgement.specs.declared.Course.{Course}
+use Rattle.judgement.specs.declared.Judged.{Judged}
+use Rattle.comparison.specs.Comparison.{isDue, placeIn}
+use Rattle.judgement.specs.Entries.{Entry, Sent, Given, Changed, Passed, entryOf, octetsIn, portAfter, isSent}
+use Rattle.judgement.specs.Courses.{sinceBy, takenBy, sentOn, givenOn, changedOn, passedOn, courseOn, begun}
+use Rattle.conformance.specs.Conformance.{portBehind, other, Verdict, Accepted, Rejected, verdictAt, verdictFrom, courseFrom, beforeOther}
+use Rattle.judgement.specs.Steps.{rejectedWith, sentAt, withEntry, withLine}
+use Rattle.conformance.specs.Steps.{verdictOf}
 use Rattle.verdicts.specs.Verdicts.{cappedCourse, cappedVerdict}
 
 -- the value behind lines that agree, whose course is c

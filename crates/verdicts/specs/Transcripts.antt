@@ -19,10 +19,11 @@ use Rattle.port.specs.declared.Written.the-variants.{Octets, Refused}
 use Rattle.port.specs.Parts.{maxOf}
 use Rattle.port.specs.Replies.{bit}
 use Rattle.recorder.specs.Recorder.{written, output}
-use Rattle.recorder.specs.Calls.{Operation, eventOf}
-use Rattle.recorder.specs.Calls as call
+use Rattle.calls.specs.Calls.{Operation, eventOf}
+use Rattle.calls.specs.Calls as call
 use Rattle.numerals.specs.Numerals.{decimal}
-use Rattle.conformance.specs.Conformance.{entryOf, isSent, portAfter, Accepted, verdict}
+use Rattle.judgement.specs.Entries.{entryOf, isSent, portAfter}
+use Rattle.conformance.specs.Conformance.{Accepted, verdict}
 
 -- octets in a capture: two lower-case hex digits for each
 abbrev pub hexDigit : ℕ → ℕ

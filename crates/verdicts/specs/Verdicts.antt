@@ -19,16 +19,18 @@ use Rattle.port.specs.declared.Versions.{Versions}
 use Rattle.port.specs.Parts.{running}
 use Rattle.port.specs.Replies.{bit}
 use Rattle.port.specs.Writing.{frame, toWrite, asks}
-use Rattle.events.specs.PortEvents.{created, blankPort}
+use Rattle.creation.specs.Creation.{created, blankPort}
 use Rattle.recorder.specs.declared.Change.{Change}
 use Rattle.recorder.specs.Recorder.{happens, output}
-use Rattle.recorder.specs.Demand1.{unmarked}
+use Rattle.calls.specs.Demand1.{unmarked}
 use Rattle.capture.specs.Capture.{lines}
 use Rattle.capture.specs.Feeding.{inTurn, joined}
 use Rattle.numerals.specs.Numerals.{capped}
-use Rattle.conformance.specs.declared.Course.{Course}
-use Rattle.conformance.specs.declared.Judged.{Judged}
-use Rattle.conformance.specs.Conformance.{Sent, entryOf, isSent, portBehind, Verdict, Accepted, Rejected, verdict, beforeOther, begun, courseFrom}
+use Rattle.judgement.specs.declared.Course.{Course}
+use Rattle.judgement.specs.declared.Judged.{Judged}
+use Rattle.judgement.specs.Entries.{Sent, entryOf, isSent}
+use Rattle.judgement.specs.Courses.{begun}
+use Rattle.conformance.specs.Conformance.{portBehind, Verdict, Accepted, Rejected, verdict, beforeOther, courseFrom}
 use Rattle.conformance.specs.Text.{verdictText, saidOutput}
 use Rattle.conformance.specs.Steps.{started, fed, finished, verdictOf}
 use Rattle.verdicts.specs.Transcripts.{SettingsInRange, Act, AllSayable, Own}

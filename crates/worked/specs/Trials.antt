@@ -10,10 +10,11 @@ use lib.ListN as list
 use Rattle.octets.specs.Words.{if_then_else_, _is_}
 use Rattle.octets.specs.Octets.{octets4}
 use Rattle.octets.specs.Texts.{text}
-use Rattle.tlv.specs.declared.Reading.{Reading}
-use Rattle.tlv.specs.declared.Reading.the-variants as read
+use Rattle.contents.specs.declared.Reading.{Reading}
+use Rattle.contents.specs.declared.Reading.the-variants as read
 use Rattle.tlv.specs.Refusals.{Reply, refusalNumber}
 use Rattle.tlv.specs.Layout as layout
+use Rattle.reading.specs.Reading as reading
 use Rattle.tlv.specs.declared.Revision.the-variants.{Rev101, Rev10}
 use Rattle.parameters.specs.declared.Feature.{Feature}
 use Rattle.parameters.specs.declared.Feature.the-variants.{Groups, Flow, Applications}
@@ -34,8 +35,8 @@ use Rattle.port.specs.Settled.{settled}
 use Rattle.handling.specs.Handling as handling
 use Rattle.recorder.specs.declared.Recorder.{Recorder}
 use Rattle.recorder.specs.Recorder.{portAt, blank}
-use Rattle.recorder.specs.Calls.{Operation, create, frame, flag, setting, write, take, Call, raised, after, afterAll, lentAfter, replyOf}
-use Rattle.exchange.specs.Rounds as ends
+use Rattle.calls.specs.Calls.{Operation, create, frame, flag, setting, write, take, Call, raised, after, afterAll, lentAfter, replyOf}
+use Rattle.rounds.specs.Rounds as ends
 use Rattle.exchange.specs.Recorders as cable
 
 -- a row: what it says, what the rules give, and what documents 01 and 02 state
@@ -82,7 +83,7 @@ messageIn ask o (read.Refused why place) = refusalNumber why ∷ place ∷ []
 messageIn ask o (read.Accepted c) = ask (handling.message o c)
 
 unfoldable pub reads : (handling.Message → List ℕ) → List ℕ → List ℕ
-reads ask o = messageIn ask o (layout.readFrame o)
+reads ask o = messageIn ask o (reading.readFrame o)
 
 unfoldable pub sequence : handling.Message → List ℕ
 sequence m = m .seq ∷ m .ack ∷ []

@@ -1,4 +1,4 @@
-//! crates/trial, called. No function of it has a precondition.
+//! crates/entries, called. No function of it has a precondition.
 
 mod foreign {
     extern "C" {

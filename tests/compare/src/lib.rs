@@ -1,4 +1,4 @@
-//! The proved engine (crates/trial) beside the reference engine.
+//! The proved engine (crates/trial, crates/speed) beside the reference engine.
 
 pub mod captures;
 pub mod desk_runs;

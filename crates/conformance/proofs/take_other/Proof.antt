@@ -1,5 +1,5 @@
 -- `take_other` meets its contract. Assumes nothing.
-use Rattle.conformance.specs.StepLaws.{other-passed, other-changed}
+use Rattle.judgement.specs.StepLaws.{other-passed, other-changed}
 use borrow.Author.Needs.{needs}
 use Rattle.conformance.proofs.take_other.Statement.{statement}
 use Rattle.conformance.proofs.take_other.Tie as tie

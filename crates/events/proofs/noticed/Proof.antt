@@ -1,4 +1,5 @@
 -- `events::noticed` meets its contract. Assumes nothing.
+use Rattle.events.specs.EventLaws.{noticed-absent, noticed-duplicate, noticed-bad, noticed-not-compatible}
 use borrow.Author.Needs.{needs}
 use Rattle.events.proofs.noticed.Statement.{statement}
 use Rattle.events.proofs.noticed.Tie as tie
@@ -40,13 +41,13 @@ returns-2 : tie.Need-returns-2
 returns-2 c = search needs
 
 returns-3 : tie.Need-returns-3
-returns-3 c = cc
+returns-3 c = search noticed-absent
 
 returns-4 : tie.Need-returns-4
-returns-4 c = cc
+returns-4 c = search noticed-duplicate
 
 returns-5 : tie.Need-returns-5
-returns-5 c = cc
+returns-5 c = search noticed-bad
 
 returns-6 : tie.Need-returns-6
 returns-6 c = search needs
@@ -58,7 +59,7 @@ returns-8 : tie.Need-returns-8
 returns-8 c = search needs
 
 returns-9 : tie.Need-returns-9
-returns-9 c = cc
+returns-9 c = search noticed-not-compatible
 
 returns-10 : tie.Need-returns-10
 returns-10 c = search needs

@@ -1,4 +1,5 @@
 -- `events::raise` meets its contract. Assumes nothing.
+use Rattle.events.specs.EventLaws.{raises-is}
 use borrow.Author.Needs.{needs}
 use Rattle.events.proofs.raise.Statement.{statement}
 use Rattle.events.proofs.raise.Tie as tie
@@ -31,7 +32,7 @@ becomes-requires-3 : tie.Need-becomes-requires-3
 becomes-requires-3 c κs = search needs
 
 returns : tie.Need-returns
-returns c = cc
+returns c = search raises-is
 
 pub raise-spec : {M : Type 1} → statement M
 raise-spec =

@@ -4,8 +4,8 @@ use Rattle.repeating.specs.RepeatingLaws.{repeat-waits, repeat-refused, 
 use Rattle.repeating.proofs.repeat.Statement.{statement}
 use Rattle.repeating.proofs.repeat.Tie as tie
 
-is-settled-requires : tie.Need-is-settled-requires
-is-settled-requires c κs = search needs
+none-waits-requires : tie.Need-none-waits-requires
+none-waits-requires c κs = search needs
 
 no-repetition-requires : tie.Need-no-repetition-requires
 no-repetition-requires c κs = search needs
@@ -38,7 +38,7 @@ pub repeat-spec : {M : Type 1} → statement M
 repeat-spec =
     tie.close
     (tie.spec
-    is-settled-requires
+    none-waits-requires
     no-repetition-requires
     returns
     read-for-requires

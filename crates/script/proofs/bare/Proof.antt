@@ -1,6 +1,7 @@
 -- `bare` meets its contract. Assumes nothing.
 use mathlib.Core.Path.{refl}
-use Rattle.script.specs.Lines.{lineOf, filled}
+use Rattle.words.specs.Text.{filled}
+use Rattle.script.specs.Lines.{lineOf}
 use Rattle.script.proofs.bare.Statement.{statement}
 use Rattle.script.proofs.bare.Tie as tie
 

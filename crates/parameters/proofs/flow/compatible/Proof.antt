@@ -1,6 +1,6 @@
 -- `flow::compatible` meets its contract. Assumes nothing.
 use borrow.Author.Needs.{needs}
-use Rattle.parameters.specs.Parameters.{compatible}
+use Rattle.parameters.specs.FlowLaws.{flow-compatible}
 use Rattle.parameters.proofs.flow.compatible.Statement.{statement}
 use Rattle.parameters.proofs.flow.compatible.Tie as tie
 
@@ -11,8 +11,7 @@ octet-requires-2 : tie.Need-octet-requires-2
 octet-requires-2 c κs = search needs
 
 returns : tie.Need-returns
-unfolding compatible
-returns c = cc
+returns c = search flow-compatible
 
 pub compatible-spec : {M : Type 1} → statement M
 compatible-spec = tie.close (tie.spec octet-requires octet-requires-2 returns)

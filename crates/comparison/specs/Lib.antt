@@ -1,0 +1,4 @@
+pub mod Comparison
+pub mod Places
+pub mod ComparisonLaws
+pub mod PlaceLaws

@@ -1,0 +1,5 @@
+pub mod Entries
+pub mod Courses
+pub mod Steps
+pub mod CourseLaws
+pub mod StepLaws

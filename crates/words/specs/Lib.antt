@@ -1,0 +1,4 @@
+pub mod Text
+pub mod StepsLaws
+pub mod TextLaws
+pub mod WordsLaws
