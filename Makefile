@@ -21,11 +21,11 @@ run:
 	@echo
 	target/bin/pair < examples/two-recorders.txt
 
-# The reference's own tests run beside `rt ci`, which at first proves one crate after the other. It runs four checks at a time, also
-# on two cores: it waits for all of them before it starts the next, and they are unlike in length. What needs the proved library
-# and programs runs over what it has left in target/; its verdict comes last again.
+# `rt ci` waits for all checks that it has started before it starts others, and they are unlike in length: so eight at a time, also on
+# two cores. The reference's own tests run beside it where it leaves a core free. What needs the proved library and programs runs
+# over what it has left in target/; its verdict comes last again.
 test:
-	$(CARGO) test $(REFERENCE) > $(BESIDE) 2>&1 & beside=$$!; RT_JOBS=4 rt ci | tee $(VERDICT) && { wait $$beside || { cat $(BESIDE); exit 1; }; }
+	nice -n 19 $(CARGO) test $(REFERENCE) > $(BESIDE) 2>&1 & beside=$$!; RT_JOBS=8 rt ci | tee $(VERDICT) && { wait $$beside || { cat $(BESIDE); exit 1; }; }
 	rt staticlib entries
 	$(MAKE) judge
 	target/judge/test

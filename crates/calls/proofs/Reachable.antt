@@ -24,7 +24,7 @@ use Rattle.creation.specs.Creation as creation
 use Rattle.flags.specs.Flags as flags
 use Rattle.changes.specs.Changes as changes
 use Rattle.handling.specs.Handling as handling
-use Rattle.handling.proofs.Standing.{Standing, stopped-off, handled-stands, flagged-stands, gone-stands, setting-stands, created-stands, blank-stands}
+use Rattle.invariants.proofs.Standing.{Standing, stopped-off, handled-stands, flagged-stands, gone-stands, setting-stands, created-stands, blank-stands}
 use Rattle.recorder.specs.declared.Recorder.{Recorder}
 use Rattle.recorder.specs.Recorder.{placeOf, portAt, blank, happens, changed, created}
 use Rattle.calls.specs.Calls.{Operation, create, frame, gone, flag, setting, write, take, Call, eventOf, after, afterAll}

@@ -18,7 +18,7 @@ use Rattle.tlv.specs.declared.Revision.the-variants.{Rev101, Rev10}
 use Rattle.reading.specs.Reading.{readFrame}
 use Rattle.tlv.specs.Revisions.{hasApplications}
 use Rattle.reading.specs.Revisions.{skipping, readFor}
-use Rattle.handling.proofs.Standing.{none-valid}
+use Rattle.invariants.proofs.Standing.{none-valid}
 use Rattle.parameters.specs.declared.Feature.{Feature}
 use Rattle.parameters.specs.declared.Feature.the-variants.{Groups, Flow, Applications}
 use Rattle.parameters.specs.Parameters.{validLocal}

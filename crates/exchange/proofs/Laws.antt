@@ -15,7 +15,7 @@ use Rattle.feature.specs.declared.State.{State}
 use Rattle.feature.specs.Outcome.{Received, operOf, maxOf, parametersOf, lower, heldPeer, withoutPeer, judged, outcome}
 use Rattle.feature.specs.RulesLaws.{judged-oper}
 use Rattle.turn.specs.Turn.{acknowledged}
-use Rattle.handling.proofs.Tests.{or-cases}
+use Rattle.invariants.proofs.Tests.{or-cases}
 
 -- one readable sub-TLV: Oper becomes the lower of the two Max, whatever was received
 pub lower-of-two : (f : Feature) (max : ℕ) (s : Setting) (oper : ℕ) (r : Received) →

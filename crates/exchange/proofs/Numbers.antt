@@ -14,7 +14,7 @@ use Rattle.handling.specs.Handling.{Message}
 use Rattle.exchange.specs.Expected.{Side}
 use Rattle.exchange.proofs.Core.{Settings, advertised, Offer, offerOf, Machine, Core, changed, synced, marked, handled, bump, pending, raises, released, features, gated}
 use Rattle.exchange.proofs.Outcomes.{unchanged, same-offer}
-use Rattle.handling.proofs.Tests.{is-same, some-false, none-of}
+use Rattle.invariants.proofs.Tests.{is-same, some-false, none-of}
 
 pub next-other : (n : ℕ) → next n ≡ n → ⊥
 next-other n e = omega arith

@@ -21,7 +21,7 @@ use Rattle.port.specs.Sound.{SoundParameters}
 use Rattle.exchange.specs.Expected.{Side, receivedAlone, ruled}
 use Rattle.exchange.proofs.Core.{Offer, offerOf, written, changed}
 use Rattle.exchange.proofs.Laws.{lower-of-two}
-use Rattle.handling.proofs.Tests.{is-same, beq-same, beq-not}
+use Rattle.invariants.proofs.Tests.{is-same, beq-same, beq-not}
 use Rattle.feature.specs.RulesLaws.{judgedBy, judged-by, judged-peer}
 
 -- the version that the two settings lead to, if the peer advertises

@@ -25,9 +25,9 @@ use Rattle.creation.specs.Creation.{createdPort, settingsValid}
 use Rattle.flags.specs.Flags.{restarts, flagNotice, flagSet, flagged, peerGone}
 use Rattle.port.specs.Replies.{eventReply}
 use Rattle.port.specs.Sound.{SoundPort}
-use Rattle.handling.proofs.Tests.{beq-not}
-use Rattle.handling.proofs.Fresh.{Alike, fresh-alike, runs-alike, fresh-kept, fresh-again}
-use Rattle.handling.proofs.Standing.{Standing, flagged-stands, created-runs, created-single, created-fresh, created-stands}
+use Rattle.invariants.proofs.Tests.{beq-not}
+use Rattle.invariants.proofs.Fresh.{Alike, fresh-alike, runs-alike, fresh-kept, fresh-again}
+use Rattle.invariants.proofs.Standing.{Standing, flagged-stands, created-runs, created-single, created-fresh, created-stands}
 use Rattle.exchange.specs.Demand3.{JustStarted}
 
 -- ---- the fresh state

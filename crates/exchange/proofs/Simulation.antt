@@ -15,8 +15,8 @@ use Rattle.rounds.specs.Rounds.{left, right, write, frame, Call, refused, write
 use Rattle.exchange.proofs.Core.{Settings, Core, message, recv}
 use Rattle.exchange.proofs.View.{settings, view, Kept, Offers, runs-same, view-marked, kept-marked, offers-marked, view-once, kept-once, offers-once}
 use Rattle.exchange.proofs.Calls.{write-leaves, refused-marks, delivered-port}
-use Rattle.handling.proofs.Soundness.{once-kept, completed-sound}
-use Rattle.handling.proofs.Standing.{rejected-sound}
+use Rattle.invariants.proofs.Soundness.{once-kept, completed-sound}
+use Rattle.invariants.proofs.Standing.{rejected-sound}
 use Rattle.exchange.proofs.Pairs.{Pair, given, step, run}
 
 -- a sound port that runs with the settings `s`, while several neighbours are not flagged

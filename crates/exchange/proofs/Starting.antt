@@ -21,7 +21,7 @@ use Rattle.creation.specs.Creation.{made, createdPort, settingsValid, versionsF
 use Rattle.flags.specs.Flags.{flagged, peerGone}
 use Rattle.creation.specs.Creation as creation
 use Rattle.port.specs.Replies.{eventReply}
-use Rattle.handling.proofs.Standing.{Standing}
+use Rattle.invariants.proofs.Standing.{Standing}
 use Rattle.recorder.specs.declared.Recorder.{Recorder}
 use Rattle.recorder.specs.Recorder.{portAt, happens, changed, created}
 use Rattle.calls.specs.Calls.{create, gone, flag, eventOf, afterAt, replyAt}

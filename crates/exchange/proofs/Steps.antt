@@ -17,7 +17,7 @@ use Rattle.machine.specs.State as machine
 use Rattle.exchange.specs.Expected.{Side}
 use Rattle.exchange.proofs.Core as core
 use Rattle.exchange.proofs.Core.{machineOf}
-use Rattle.handling.proofs.Tests.{is-same}
+use Rattle.invariants.proofs.Tests.{is-same}
 
 -- ---- a feature's written sub-TLV differs exactly if Oper or Error does
 

@@ -40,7 +40,7 @@ use Rattle.creation.specs.Creation.{started, createdPort, blankPort}
 use Rattle.flags.specs.Flags.{restarts, flagNotice, flagSet, flagged, peerGone}
 use Rattle.changes.specs.Changes.{withFeature, withSetting, settingChanged, setTo, changedFeature, changedApplications, changedSetting}
 use Rattle.handling.specs.Handling.{Message, message, twice, met, exchanged, once, steps1to4, frameEvent, accepted, rejected, given, handled}
-use Rattle.handling.proofs.Tests.{beq-not}
+use Rattle.invariants.proofs.Tests.{beq-not}
 
 -- ---- outcomes
 

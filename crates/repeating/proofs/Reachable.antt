@@ -21,7 +21,7 @@ use Rattle.creation.specs.Creation as creation
 use Rattle.flags.specs.Flags as flags
 use Rattle.changes.specs.Changes as changes
 use Rattle.handling.specs.Handling as handling
-use Rattle.handling.proofs.Standing.{Standing, blank-stands}
+use Rattle.invariants.proofs.Standing.{Standing, blank-stands}
 use Rattle.recorder.specs.declared.Recorder.{Recorder}
 use Rattle.recorder.specs.declared.Change.the-variants.{Frame}
 use Rattle.recorder.specs.Recorder.{portAt, blank, happens, changed, created}

@@ -28,8 +28,8 @@ use Rattle.sending.specs.Sending.{withSeq, unacknowledged, raisesSeqNo, sent, s
 use Rattle.events.specs.PortEvents.{event, unchanged, refused}
 use Rattle.changes.specs.Changes.{withFeature, withSetting, settingChanged, setTo, changedFeature, changedApplications, changedSetting}
 use Rattle.handling.specs.Handling.{Message, met, exchanged, once, withBroken}
-use Rattle.handling.proofs.Tests.{or-cases}
-use Rattle.handling.proofs.Fresh.{Alike, sent-alike, runs-alike, fresh-setting}
+use Rattle.invariants.proofs.Tests.{or-cases}
+use Rattle.invariants.proofs.Fresh.{Alike, sent-alike, runs-alike, fresh-setting}
 
 pub next-other : (n : ℕ) → next n ≡ n → ⊥
 next-other n e = omega arith

@@ -24,9 +24,9 @@ use Rattle.port.specs.Sound.{SoundPort, InStep}
 use Rattle.changes.specs.Changes.{changedSetting}
 use Rattle.sending.specs.Sending.{completed}
 use Rattle.handling.specs.Handling.{Message, message, hasOf, exchanged, once, steps1to4, frameEvent, accepted, breaks, withBroken, rejected, given, handled}
-use Rattle.handling.proofs.Soundness.{once-kept, completed-sound}
-use Rattle.handling.proofs.Standing.{Standing, rejected-sound, rejected-in-step, setting-stands}
-use Rattle.handling.proofs.Waiting.{steps-in-step}
+use Rattle.invariants.proofs.Soundness.{once-kept, completed-sound}
+use Rattle.invariants.proofs.Standing.{Standing, rejected-sound, rejected-in-step, setting-stands}
+use Rattle.invariants.proofs.Waiting.{steps-in-step}
 use Rattle.rounds.specs.Rounds.{RefusesFrame}
 use Rattle.exchange.proofs.Core as core
 use Rattle.exchange.proofs.View.{Kept, runs-same, kept-once}

@@ -13,8 +13,8 @@ use Rattle.machine.specs.State.{next, freshAt, fresh}
 use Rattle.port.specs.declared.Port.{Port}
 use Rattle.port.specs.Parts.{featureOf}
 use Rattle.sending.specs.Sending.{sent, freshParts, freshPort}
-use Rattle.handling.proofs.Fresh.{fresh-setting}
-use Rattle.handling.proofs.Waiting.{fresh-in-step}
+use Rattle.invariants.proofs.Fresh.{fresh-setting}
+use Rattle.invariants.proofs.Waiting.{fresh-in-step}
 use Rattle.exchange.specs.Demand3.{JustStarted}
 use Rattle.ticks.proofs.Events.{sent-feature, sent-rcvd, sent-ack, sent-seq}
 use Rattle.ticks.proofs.Ways.{Way}

@@ -22,7 +22,7 @@ use Rattle.port.specs.Replies.{bit}
 use Rattle.port.specs.Writing.{frame}
 use Rattle.port.specs.Writing as writing
 use Rattle.creation.specs.Creation.{created, blankPort}
-use Rattle.handling.proofs.Standing.{Standing}
+use Rattle.invariants.proofs.Standing.{Standing}
 use Rattle.recorder.specs.declared.Change.{Change}
 use Rattle.recorder.specs.declared.Change.the-variants as change
 use Rattle.recorder.specs.Recorder.{happens, changed, written, output}

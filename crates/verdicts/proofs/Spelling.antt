@@ -46,9 +46,9 @@ use Rattle.changes.specs.Changes.{withFeature, withSetting, settingChanged, set
 use Rattle.creation.specs.Creation.{blankParameters, blankPort, started, createdPort, settingsValid, created, createdWith, versionsFor, switchesFor, parametersFor}
 use Rattle.creation.specs.Creation as creation
 use Rattle.handling.specs.Handling.{Message, message, twice, met, exchanged, once, steps1to4, frameEvent, accepted, rejected, given, handled}
-use Rattle.handling.proofs.Soundness.{Octets}
-use Rattle.handling.proofs.Fresh.{fresh-setting}
-use Rattle.handling.proofs.Standing.{Standing, handled-stands, flagged-stands, gone-stands, setting-stands, created-stands, blank-stands}
+use Rattle.invariants.proofs.Soundness.{Octets}
+use Rattle.invariants.proofs.Fresh.{fresh-setting}
+use Rattle.invariants.proofs.Standing.{Standing, handled-stands, flagged-stands, gone-stands, setting-stands, created-stands, blank-stands}
 use Rattle.recorder.specs.declared.Change.{Change}
 use Rattle.recorder.specs.declared.Change.the-variants as change
 use Rattle.recorder.specs.Recorder.{happens}

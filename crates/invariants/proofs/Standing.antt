@@ -38,12 +38,12 @@ use Rattle.events.specs.PortEvents.{event, unchanged, refused}
 use Rattle.creation.specs.Creation.{started, createdPort, settingsValid, blankParameters, blankState, blankPort}
 use Rattle.flags.specs.Flags.{restarts, flagNotice, flagSet, flagged, peerGone}
 use Rattle.changes.specs.Changes.{withFeature, withSetting, settingChanged, setTo, changedFeature, changedApplications, changedSetting}
 use Rattle.handling.specs.Handling.{Message, message, twice, met, exchanged, once, steps1to4, frameEvent, accepted, breaks, withBroken, rejected, given, handled}
 use Rattle.port.specs.Sound.{SoundSetting, SoundState, SoundPort, InStep}
-use Rattle.handling.proofs.Tests.{beq-not, each-true}
-use Rattle.handling.proofs.Soundness.{Octets, sound-stored, adopts-none, judged-sound, next-small, port-sound, present-sound, sent-sound, completed-sound, steps-sound}
-use Rattle.handling.proofs.Waiting.{AllStepped, AllReady, in-step, stepped, fresh-ready, fresh-stepped, sent-in-step, fresh-in-step, steps-in-step, set-in-step}
-use Rattle.handling.proofs.Fresh.{fresh-max, fresh-setting, state-again, fresh-sound, sent-alike, runs-alike, fresh-kept, fresh-same, fresh-again}
+use Rattle.invariants.proofs.Tests.{beq-not, each-true}
+use Rattle.invariants.proofs.Soundness.{Octets, sound-stored, adopts-none, judged-sound, next-small, port-sound, present-sound, sent-sound, completed-sound, steps-sound}
+use Rattle.invariants.proofs.Waiting.{AllStepped, AllReady, in-step, stepped, fresh-ready, fresh-stepped, sent-in-step, fresh-in-step, steps-in-step, set-in-step}
+use Rattle.invariants.proofs.Fresh.{fresh-max, fresh-setting, state-again, fresh-sound, sent-alike, runs-alike, fresh-kept, fresh-same, fresh-again}
 
 pub record Standing (p : Port) : Type 0 where
   pub sound : SoundPort p

@@ -18,7 +18,7 @@ use Rattle.port.specs.Parts.{featureOf, withControl, withFeatures, presents, re
 use Rattle.sending.specs.Sending.{withSeq, raisesSeqNo, sent, freshControl, freshParts, freshPort}
 use Rattle.port.specs.Sound.{SoundSetting, SoundState, SoundRelease, NoApplications, SoundPort}
 use Rattle.tlv.specs.Revisions.{hasApplications}
-use Rattle.handling.proofs.Soundness.{port-sound, present-sound, sent-sound}
+use Rattle.invariants.proofs.Soundness.{port-sound, present-sound, sent-sound}
 
 -- ---- one feature
 

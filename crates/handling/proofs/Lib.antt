@@ -1,6 +1,0 @@
--- What stands beside the proofs of the functions: every event keeps a port sound. Assumes nothing.
-pub mod Tests
-pub mod Soundness
-pub mod Fresh
-pub mod Waiting
-pub mod Standing

@@ -1,0 +1,1 @@
+// The invariants of a port (port/Sound), which every event keeps: proofs alone.
