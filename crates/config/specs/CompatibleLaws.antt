@@ -106,3 +106,11 @@ unfolding compatible
 compatible-refl Groups p e = same-refl (take 12 p)
 compatible-refl Flow p e = eq-eqb (mask p) (mask p) refl
 compatible-refl Applications p e = ours-decides Applications p ∙ clear-of-self (ours Applications p) (entries-told p e .new)
+
+-- the same octets as valid ones suit them
+pub compatible-same : (f : Feature) (p q : List ℕ) {b : Bool} → valid f q ≡ true → b ≡ same p q → b ≡ true → true ≡ compatible f p q
+compatible-same f p q v e h = rw (same-is p q (sym e ∙ h)) (sym (compatible-refl f q v))
+
+-- the applications among parameters that are valid
+pub valid-applications : (f : Feature) (q : List ℕ) → f ≡ Applications → valid f q ≡ true → valid Applications q ≡ true
+valid-applications f q h v = rw h at v

@@ -1,5 +1,7 @@
 // The configuration of any of the three features: what is valid, what is compatible, and how it is stored.
 ghost use mathlib.Core.Path.{_≡_};
+ghost use mathlib.Core.Bool.{true};
+ghost use Rattle.parameters.specs.declared.Feature.the-variants.{Applications};
 ghost use Rattle.parameters.specs.Parameters.{compatible, ours, stored, valid, validLocal};
 use parameters::Feature;
 use parameters::Parameters;
@@ -37,6 +39,30 @@ pub fn compatible(f: Feature, p: &[u8], q: &[u8]) -> bool
         Feature::Groups => parameters::groups::compatible(p, q),
         Feature::Flow => parameters::flow::compatible(p, q),
         Feature::Applications => applications::compatible(p, q),
+    }
+}
+
+// The same of applications, where the other end's are valid: valid ones suit themselves, so that the same octets need no walk over
+// pairs of entries.
+fn suits_entries(own: &[u8], theirs: &[u8]) -> bool
+    requires { ⌜ valid Applications (now theirs) ≡ true ⌝ }
+    ensures { λ r. ⌜ r ≡ compatible Applications (now (own .entry)) (now (theirs .entry)) ⌝ }
+{
+    if octets::same_octets(own, theirs) {
+        return true;
+    }
+    applications::compatible(own, theirs)
+}
+
+// Whether parameters that came in a frame are compatible with the end's own, where they are valid; hence the `requires`.
+pub fn suits(f: Feature, own: &[u8], theirs: &[u8]) -> bool
+    requires { ⌜ valid f (now theirs) ≡ true ⌝ }
+    ensures { λ r. ⌜ r ≡ compatible f (now (own .entry)) (now (theirs .entry)) ⌝ }
+{
+    match f {
+        Feature::Groups => parameters::groups::compatible(own, theirs),
+        Feature::Flow => parameters::flow::compatible(own, theirs),
+        Feature::Applications => suits_entries(own, theirs),
     }
 }
 

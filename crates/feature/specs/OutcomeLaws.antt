@@ -147,6 +147,14 @@ pub judged-value : (f : Feature) (s : Setting) (oper : ℕ) (v : List ℕ) {x : 
     → d ≡ judgedOn f (switchesOf s) (content (s .desired)) oper (flagsOf v) (parametersOf v)
 judged-value f s oper v ex eo ew et e = e ∙ (λ i. judgedOn f (ex i) (eo i) oper (ew i) (et i))
 
+-- that they are valid, where they are lent
+module _ (f : Feature) {t u : List ℕ} (e : t ≡ u) where
+  pub valid-lent : valid f u ≡ true → valid f t ≡ true
+  valid-lent h = rw e h
+
+  pub valid-tested : {b : Bool} → b ≡ valid f t → not b ≡ false → valid f u ≡ true
+  valid-tested {b} g h = rw (← e) (sym g ∙ not-false b h)
+
 -- parameters that are valid suit the own ones just as what is held of them
 pub held-suits : (f : Feature) (o t : List ℕ) → valid f t ≡ true → compatible f o (content (stored (ours f t))) ≡ compatible f o t
 held-suits f o t v = ap (compatible f o) (content-stored (ours f t) (ours-length f t v)) ∙ compatible-ours f o t

@@ -1,6 +1,7 @@
 // One feature: its setting, its state by their parts, and the outcome rules that all three features share.
 ghost use mathlib.Core.Path.{_≡_};
-ghost use Rattle.parameters.specs.Parameters.{content, noParameters};
+ghost use mathlib.Core.Bool.{true};
+ghost use Rattle.parameters.specs.Parameters.{content, noParameters, valid};
 ghost use Rattle.feature.specs.Reasons.{reasonNumber};
 ghost use Rattle.feature.specs.Outcome.{configuration, lower, outcome, parametersOf, withPeer, withoutPeer};
 ghost use Rattle.feature.specs.OutcomeLaws.{decided, flagsOf, outcomeOf, peerOf, judgedOn, switchesOf};
@@ -194,8 +195,9 @@ fn with_peer(why: Reason, oper: u8, error: bool, mode: bool, p: Flags, adopts: b
     }
 }
 
-// Rules 6 to 9, at a version and with a peer that is held.
+// Rules 6 to 9, at a version and with a peer that a frame brought, whose parameters are valid; hence the `requires`.
 fn judge(f: Feature, s: Switches, own: &[u8], oper: u8, p: Flags, theirs: &[u8]) -> Decision
+    requires { ⌜ valid f (now theirs) ≡ true ⌝ }
     ensures { λ r. ⌜ r ≡ judgedOn f s (now (own .entry)) oper p (now (theirs .entry)) ⌝ }
 {
     if !s.enable {
@@ -207,7 +209,7 @@ fn judge(f: Feature, s: Switches, own: &[u8], oper: u8, p: Flags, theirs: &[u8])
     if s.willing != p.willing {
         return with_peer(Reason::Agreed, oper, false, !p.error, p, s.willing);
     }
-    if config::compatible(f, own, theirs) {
+    if config::suits(f, own, theirs) {
         return with_peer(Reason::Agreed, oper, false, !p.error, p, false);
     }
     with_peer(Reason::NotCompatible, oper, true, false, p, false)
@@ -264,7 +266,7 @@ fn flags_in(value: &[u8]) -> Flags
 
 // Rules 6 to 9 of a sub-TLV's value; `desired` are the setting's own parameters, lent.
 fn judge_value(f: Feature, s: Setting, desired: &[u8], oper: u8, value: &[u8]) -> Decision
-    requires { ⌜ now desired ≡ content (s .desired) ⌝ }
+    requires { ⌜ (now desired ≡ content (s .desired)) × (valid f (parametersOf (now value)) ≡ true) ⌝ }
     ensures { λ r. ⌜ r ≡ judgedOn f (switchesOf s) (content (s .desired)) oper (flagsOf (now (value .entry))) (parametersOf (now (value .entry))) ⌝ }
 {
     judge(

@@ -157,14 +157,7 @@ pub fn handle_alone(creation: &[u8], frames: &[u8], size: usize, times: usize) -
         let k = repeating::repeat(1, port, frame);
         if k.holds {
             let c = k.control;
-            port.control.max = c.max;
-            port.control.oper = c.oper;
-            port.control.seq = c.seq;
-            port.control.ack = c.ack;
-            port.control.rcvd = c.rcvd;
-            port.control.seen = c.seen;
-            port.control.duplicate = c.duplicate;
-            port.control.broken = c.broken;
+            port.control = c;
             sum = std::num::wrapping_add_u64(sum, k.wish as u64);
             continue;
         }

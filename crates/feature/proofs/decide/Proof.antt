@@ -1,5 +1,5 @@
 -- `feature::decide` meets its contract. Assumes nothing.
-use Rattle.feature.specs.OutcomeLaws.{outcome-absent, outcome-duplicate, outcome-short, outcome-above, outcome-waiting, outcome-invalid, outcome-judged}
+use Rattle.feature.specs.OutcomeLaws.{outcome-absent, outcome-duplicate, outcome-short, outcome-above, outcome-waiting, outcome-invalid, outcome-judged, valid-tested}
 use borrow.Author.Needs.{needs}
 use Rattle.feature.proofs.decide.Statement.{statement}
 use Rattle.feature.proofs.decide.Tie as tie
@@ -56,7 +56,7 @@ returns-6 : tie.Need-returns-6
 returns-6 c = search outcome-invalid
 
 judge-value-requires : tie.Need-judge-value-requires
-judge-value-requires c κs = search needs
+judge-value-requires c κs = (search needs, valid-tested _ (c .before .before .from .ensures) (c .before .valid .ensures) (c .if6 .left))
 
 returns-7 : tie.Need-returns-7
 returns-7 c = search outcome-judged

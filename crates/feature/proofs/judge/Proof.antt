@@ -22,8 +22,8 @@ with-peer-requires-3 c κs = search needs
 returns-3 : tie.Need-returns-3
 returns-3 c = search judged-differ
 
-compatible-requires : tie.Need-compatible-requires
-compatible-requires c κs = search needs
+suits-requires : tie.Need-suits-requires
+suits-requires c κs = search needs
 
 with-peer-requires-4 : tie.Need-with-peer-requires-4
 with-peer-requires-4 c κs = search needs
@@ -47,7 +47,7 @@ judge-spec =
     returns-2
     with-peer-requires-3
     returns-3
-    compatible-requires
+    suits-requires
     with-peer-requires-4
     returns-4
     with-peer-requires-5

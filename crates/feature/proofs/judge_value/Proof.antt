@@ -1,5 +1,5 @@
 -- `feature::judge_value` meets its contract. Assumes nothing.
-use Rattle.feature.specs.OutcomeLaws.{judged-value}
+use Rattle.feature.specs.OutcomeLaws.{judged-value, valid-lent}
 use borrow.Author.Needs.{needs}
 use Rattle.feature.proofs.judge_value.Statement.{statement}
 use Rattle.feature.proofs.judge_value.Tie as tie
@@ -14,7 +14,7 @@ from-requires : tie.Need-from-requires
 from-requires c κs = search needs
 
 judge-requires : tie.Need-judge-requires
-judge-requires c κs = search needs
+judge-requires c κs = search valid-lent
 
 returns : tie.Need-returns
 returns c = search judged-value
