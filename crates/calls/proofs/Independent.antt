@@ -16,7 +16,8 @@ use Rattle.port.specs.declared.Event.{Event}
 use Rattle.creation.specs.Creation.{blankPort}
 use Rattle.events.specs.PortEvents.{silent}
 use Rattle.recorder.specs.declared.Recorder.{Recorder}
-use Rattle.recorder.specs.Recorder.{placeOf, portAt, blank, changed, created, kept, stored}
+use Rattle.logging.specs.Logging.{kept}
+use Rattle.recorder.specs.Recorder.{placeOf, portAt, blank, changed, created, stored}
 use Rattle.calls.specs.Calls.{Operation, create, frame, gone, flag, setting, write, take, Call, eventOf, afterAt, after, afterAll, lentAt, replyAt}
 use Rattle.calls.specs.Independent.{isEvent, takes, own, Independent}
 use Rattle.calls.proofs.Refusals.{stored-same}

@@ -21,8 +21,9 @@ use Rattle.port.specs.declared.Raised.the-variants as raised-is
 use Rattle.port.specs.declared.Notices.{Notices}
 use Rattle.events.specs.PortEvents.{listed, inOrder}
 use Rattle.recorder.specs.declared.Recorder.{Recorder}
-use Rattle.recorder.specs.declared.Taken.{Taken}
-use Rattle.recorder.specs.Recorder.{placeOf, portAt, blank, stored, taken}
+use Rattle.logging.specs.declared.Taken.{Taken}
+use Rattle.logging.specs.Logging.{taken}
+use Rattle.recorder.specs.Recorder.{placeOf, portAt, blank, stored}
 use Rattle.calls.specs.Calls.{Operation, create, frame, gone, flag, setting, write, take, Call, eventOf, raisedAt, raised, afterAt, after, afterAll, tookReply, replyAt}
 use Rattle.calls.specs.Independent.{takes, untakenAt}
 use Rattle.calls.specs.Logged.{raisedAll, takesAt, takings, stepsOf, steps, elsewhere, Accounted, Logged}

@@ -34,7 +34,8 @@ use Rattle.creation.specs.Creation.{made, createdPort, settingsValid, versionsF
 use Rattle.flags.specs.Flags.{restarts, flagNotice, flagSet, flagged, peerGone}
 use Rattle.changes.specs.Changes.{withFeature, withSetting, settingChanged, setTo, changedFeature, changedApplications, changedSetting}
 use Rattle.creation.specs.Creation as creation
-use Rattle.handling.specs.Handling.{twice, exchanged, once, steps1to4, frameEvent, accepted, rejected, given, handled}
+use Rattle.admission.specs.Admission.{rejected}
+use Rattle.handling.specs.Handling.{twice, exchanged, once, steps1to4, frameEvent, accepted, given, handled}
 use Rattle.recorder.specs.declared.Recorder.{Recorder}
 use Rattle.recorder.specs.Recorder.{portAt, happens, changed, created}
 use Rattle.calls.specs.Calls.{Operation, create, frame, gone, flag, setting, write, take, Call, eventOf, after, afterAll, replyOf}

@@ -46,12 +46,14 @@ use Rattle.changes.specs.Changes.{settingChanged, setTo, changedFeature}
 use Rattle.creation.specs.Creation as creation
 use Rattle.flags.specs.Flags as flags
 use Rattle.changes.specs.Changes as changes
-use Rattle.handling.specs.Handling.{newlyMarked, frameEvent, accepted, breaks, withBroken, alone, rejected, given}
+use Rattle.admission.specs.Admission.{newlyMarked, breaks, withBroken, alone, rejected}
+use Rattle.handling.specs.Handling.{frameEvent, accepted, given}
 use Rattle.handling.specs.Handling as handling
 use Rattle.recorder.specs.declared.Recorder.{Recorder}
-use Rattle.recorder.specs.declared.Taken.{Taken}
-use Rattle.recorder.specs.declared.Took.the-variants as took
-use Rattle.recorder.specs.Recorder.{placeOf, portAt, happens, changed, created, stored, written, output, taken}
+use Rattle.logging.specs.declared.Taken.{Taken}
+use Rattle.logging.specs.declared.Took.the-variants as took
+use Rattle.logging.specs.Logging.{taken}
+use Rattle.recorder.specs.Recorder.{placeOf, portAt, happens, changed, created, stored, written, output}
 use Rattle.calls.specs.Calls.{Operation, create, frame, gone, flag, setting, write, take, Call, eventOf, raisedAt, afterAt, lentTo, lentAt, tookReply, replyAt}
 use Rattle.calls.specs.Rows.{isFrame, invalid, takesSetting}
 use Rattle.calls.specs.Table.{applies, order, firstIn, firstAt, placeBeside}

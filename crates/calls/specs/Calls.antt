@@ -17,9 +17,10 @@ use Rattle.events.specs.PortEvents.{unchanged, inOrder}
 use Rattle.port.specs.Replies.{eventReply, writtenReply}
 use Rattle.recorder.specs.declared.Recorder.{Recorder}
 use Rattle.recorder.specs.declared.Change.the-variants as change
-use Rattle.recorder.specs.declared.Took.{Took}
-use Rattle.recorder.specs.declared.Took.the-variants as took
-use Rattle.recorder.specs.Recorder.{portAt, changed, created, stored, written, output, taken}
+use Rattle.logging.specs.declared.Took.{Took}
+use Rattle.logging.specs.declared.Took.the-variants as took
+use Rattle.logging.specs.Logging.{taken}
+use Rattle.recorder.specs.Recorder.{portAt, changed, created, stored, written, output}
 
 -- one case for each operation at a port, with its arguments
 pub data Operation : Type 0 where

@@ -17,7 +17,7 @@ use Rattle.port.specs.Replies.{bit}
 use Rattle.port.specs.Writing.{toWrite}
 use Rattle.port.specs.Writing as writing
 use Rattle.recorder.specs.declared.Recorder.{Recorder}
-use Rattle.handling.specs.Handling.{withBroken}
+use Rattle.admission.specs.Admission.{withBroken}
 use Rattle.recorder.specs.Recorder.{placeOf, portAt}
 use Rattle.calls.specs.Calls.{Operation, create, frame, gone, flag, setting, write, take, Call, eventOf, raised, after, afterAll, lent, lentAfter, replyOf, accepted}
 use Rattle.calls.specs.Rows.{isFrame}

@@ -10,6 +10,7 @@ use Rattle.comparison.specs.Comparison.{isDue, placeIn}
 use Rattle.judgement.specs.declared.Course.{Course}
 use Rattle.judgement.specs.Entries.{Entry, Sent, Given, Changed, Passed, octetsIn, entryOf, isSent, portAfter}
 use Rattle.judgement.specs.Courses.{courseOn}
+use Rattle.ruling.specs.Ruling.{Verdict, Accepted, Rejected}
 
 -- the port to which all lines lead
 unfoldable pub portBehind : Port → List (List ℕ) → Port
@@ -24,11 +25,6 @@ other (Sent o) p = not (isDue p o)
 other (Given o) p = false
 other (Changed x o) p = false
 other Passed p = false
-
--- "The first other frame is named, by its line and the place"; accepted, with how many frames were compared
-pub data Verdict : Type 0 where
-  Accepted : ℕ → Verdict
-  Rejected : ℕ → ℕ → Verdict
 
 -- line n at port p, and the verdict on the lines behind it, which stands unless this is a frame that is not due
 unfoldable pub verdictAt : Entry → Port → ℕ → Verdict → Verdict

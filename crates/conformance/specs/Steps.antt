@@ -11,7 +11,7 @@ use Rattle.numerals.specs.Numerals.{more}
 use Rattle.judgement.specs.declared.Judged.{Judged}
 use Rattle.judgement.specs.Steps.{withLine, unjudged}
 use Rattle.conformance.specs.declared.Judging.{Judging}
-use Rattle.conformance.specs.Conformance.{Verdict, Accepted, Rejected}
+use Rattle.ruling.specs.Ruling.{Verdict, Accepted, Rejected}
 
 abbrev pub judgingOf : Judged → Held → Judging
 judgingOf t h = record { judged = t; held = h }

@@ -1,18 +1,12 @@
--- docs/FORMATS.md, The verdict of `conform`: its line, in octets.
+-- docs/FORMATS.md, The verdict of `conform`: where its line (ruling/Ruling) stands.
 use Prim.Native.Nat.{ℕ}
 use mathlib.Core.Path.{_≡_}
-use mathlib.Core.List.{List, [], _∷_, _++_}
+use mathlib.Core.List.{List, _++_}
 use lib.ListN.{length, drop}
 use Rattle.octets.specs.Words.{if_then_else_, _below_}
-use Rattle.octets.specs.Texts.{text}
-use Rattle.numerals.specs.Numerals.{decimal}
 use Rattle.judgement.specs.declared.Judged.{Judged}
-use Rattle.conformance.specs.Conformance.{Verdict, Accepted, Rejected}
+use Rattle.ruling.specs.Ruling.{verdictText}
 use Rattle.conformance.specs.Steps.{verdictOf}
-
-unfoldable pub verdictText : Verdict → List ℕ
-verdictText (Accepted k) = text "accepted " ++ (decimal k ++ (10 ∷ []))
-verdictText (Rejected n q) = text "rejected line " ++ ((decimal n ++ (32 ∷ [])) ++ (text "place " ++ (decimal q ++ (10 ∷ []))))
 
 -- An output of fewer than 64 octets, which may be too few, is left as it is and answered with 0. In any other the line stands in front.
 unfoldable pub saidLength : Judged → List ℕ → ℕ

@@ -215,7 +215,7 @@ pub fn next_line(buffer: &mut [u8], l: Lines) -> Lines {
         if !now.found {
             return now;
         }
-        if !script::is_passed_over(line(buffer, now)) {
+        if !addressing::is_passed_over(line(buffer, now)) {
             return now;
         }
         turns -= 1;

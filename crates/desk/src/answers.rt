@@ -1,6 +1,10 @@
 // Events at a port of a recorder, a line each, and their answers.
+use addressing::PortWord;
 use faults::Fault;
 use feature::Switches;
+use lines::Kind;
+use lines::Line;
+use logging::Took;
 use notices::Log;
 use parameters::Feature;
 use port::Answer;
@@ -9,10 +13,6 @@ use port::Flag;
 use port::Port;
 use port::Written;
 use recorder::Change;
-use recorder::Took;
-use script::Kind;
-use script::Line;
-use script::PortWord;
 use tlv::Refusal;
 
 // The refusal of an invalid setting (01, Refusal numbers).
@@ -45,12 +45,12 @@ pub fn answered(out: &mut [u8], at: usize, w: PortWord, e: Event) -> usize {
     report::ports::others(out, at, end, w.given, w.number)
 }
 
-fn port_flag(f: script::Flag) -> Flag {
+fn port_flag(f: lines::Flag) -> Flag {
     match f {
-        script::Flag::Admin => Flag::Admin,
-        script::Flag::Receive => Flag::Receive,
-        script::Flag::Transmit => Flag::Transmit,
-        script::Flag::Several => Flag::Several,
+        lines::Flag::Admin => Flag::Admin,
+        lines::Flag::Receive => Flag::Receive,
+        lines::Flag::Transmit => Flag::Transmit,
+        lines::Flag::Several => Flag::Several,
     }
 }
 
@@ -83,7 +83,7 @@ fn change(n: u8, p: Port, l: Line) -> Event {
 
 fn changed(out: &mut [u8], at: usize, w: PortWord, l: Log, e: Event) -> Step {
     let port = e.port;
-    let log = recorder::keep(l, w.number, e.notices);
+    let log = logging::keep(l, w.number, e.notices);
     Step {
         port: port,
         log: log,
@@ -135,7 +135,7 @@ fn taken(out: &mut [u8], at: usize, x: Took) -> usize {
 }
 
 fn take(out: &mut [u8], at: usize, n: u8, p: Port, l: Log) -> Step {
-    let t = recorder::take(n, l);
+    let t = logging::take(n, l);
     let log = t.log;
     let answer = t.answer;
     Step {
@@ -197,7 +197,7 @@ pub fn event(
     number: u64,
     said: &[u8],
 ) -> Step {
-    if !w.given & script::is_passed_over(said) {
+    if !w.given & addressing::is_passed_over(said) {
         return Step {
             port: p,
             log: l,

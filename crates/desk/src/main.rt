@@ -84,8 +84,8 @@ fn run(input: &mut [u8], output: &mut [u8], start: Recorder, first: Lines, behin
             return;
         }
         let line = console::line(input, lines);
-        let w = script::port_of(line);
-        let said = script::behind_port(line, w.given);
+        let w = addressing::port_of(line);
+        let said = addressing::behind_port(line, w.given);
         let from = report::ports::first(output, p.at, w.given, w.number);
         let i = recorder::place_of(w.number);
         if script::is_frame(said) {
@@ -108,8 +108,8 @@ fn run(input: &mut [u8], output: &mut [u8], start: Recorder, first: Lines, behin
             let e = recorder::handle(w.number, held.ports[i], frame);
             let port = e.port;
             held.ports[i] = port;
-            if !recorder::is_silent(e.notices) {
-                let log = recorder::keep(held.log, w.number, e.notices);
+            if !logging::is_silent(e.notices) {
+                let log = logging::keep(held.log, w.number, e.notices);
                 held.log = log;
             }
             at = answers::answered(output, from, w, e);

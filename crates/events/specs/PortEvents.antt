@@ -62,7 +62,7 @@ inOrder port n =
 
 -- ---- Events
 
--- "A refusal returns its number alone and changes nothing": of a frame see handling/specs (02, E1). Beside a refusal that is no frame's the place
+-- "A refusal returns its number alone and changes nothing": of a frame see admission/specs (02, E1). Beside a refusal that is no frame's the place
 -- of 02, E2, is 0.
 abbrev pub refused : Refusal → Port → Event
 refused why p = record { answer = Refused why 0; port = p; notices = silent }

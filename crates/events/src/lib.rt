@@ -113,7 +113,7 @@ pub fn silent() -> Notices
     }
 }
 
-// A refusal changes nothing; a frame's is `handling::reject`.
+// A refusal changes nothing; a frame's is `admission::reject`.
 pub fn refuse(why: Refusal, p: Port) -> Event
     ensures { λ r. ⌜ r ≡ refused why p ⌝ }
 {

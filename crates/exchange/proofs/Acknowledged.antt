@@ -7,7 +7,7 @@ use mathlib.Core.Bool.{Bool, true, false, false≢true}
 use mathlib.Core.List.{List}
 use mathlib.Core.Option.{Option, none, some}
 use Rattle.machine.specs.State.{next}
-use Rattle.handling.specs.Handling.{Message}
+use Rattle.admission.specs.Admission.{Message}
 use Rattle.rounds.specs.Rounds.{left, right, Call, refused, writes, handles}
 use Rattle.exchange.proofs.Core.{Settings, Core, message, features, started, gated, recv}
 use Rattle.exchange.proofs.Numbers.{next-other, Marked, raises-cases, All-synced, All-shown, All-marked, to-marked, shown-all, Stays, stays, keeps-marked, raised-shown, skipped, skipped-all}

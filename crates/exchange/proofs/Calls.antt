@@ -30,7 +30,8 @@ use Rattle.port.specs.declared.Answer.the-variants as answer
 use Rattle.port.specs.Parts.{three, withControl, withFeatures, running}
 use Rattle.port.specs.Writing.{frame, written, output}
 use Rattle.sending.specs.Sending.{completed}
-use Rattle.handling.specs.Handling.{message, twice, met, numbered, exchanged, once, steps1to4, frameEvent, accepted, breaks, withBroken, rejected, given, handled}
+use Rattle.admission.specs.Admission.{message, met, numbered, breaks, withBroken, rejected}
+use Rattle.handling.specs.Handling.{twice, exchanged, once, steps1to4, frameEvent, accepted, given, handled}
 use Rattle.port.specs.Sound.{SoundPort}
 use Rattle.exchange.proofs.Core as core
 use Rattle.exchange.proofs.View.{settings, view, Offers}

@@ -11,7 +11,7 @@ use Rattle.feature.specs.declared.State.{State}
 use Rattle.feature.specs.Outcome.{Received, outcome}
 use Rattle.machine.specs.State.{next, flags, fresh}
 use Rattle.port.specs.Parts.{some}
-use Rattle.handling.specs.Handling.{Message}
+use Rattle.admission.specs.Admission.{Message}
 use Rattle.exchange.specs.Expected.{Side}
 
 -- what an end is set to: control's highest version, and each feature's with its setting

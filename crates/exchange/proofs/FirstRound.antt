@@ -7,7 +7,7 @@ use mathlib.Core.Bool.{Bool, true, false, cond, false≢true}
 use borrow.Author.Tests.{eq-eqb}
 use Rattle.octets.specs.Words.{_is_}
 use Rattle.machine.specs.State.{next, freshAt}
-use Rattle.handling.specs.Handling.{Message}
+use Rattle.admission.specs.Admission.{Message}
 use Rattle.exchange.specs.Expected.{Side}
 use Rattle.exchange.proofs.Core.{Settings, offerOf, Core, message, bump, raises, freshMachine, freshMachines, started, gated, recv}
 use Rattle.exchange.proofs.Numbers.{next-other, Shown, Marked, raises-cases, All-shown, All-marked, SentMarked, Held, to-marked, Stays, raised, stays, keeps-marked, keeps-shown, waits, quiet-waits, skipped, skipped-all}

@@ -27,7 +27,7 @@ use Rattle.machine.specs.State.{value, releaseTlv}
 use Rattle.port.specs.declared.Port.{Port}
 use Rattle.port.specs.Parts.{featureOf, releasedOf}
 use Rattle.port.specs.Writing.{controlValue, releasedTlv, subTlvs, frame}
-use Rattle.handling.specs.Handling.{hasOf, message}
+use Rattle.admission.specs.Admission.{hasOf, message}
 use Rattle.port.specs.Sound.{SoundRelease, SoundPort}
 use Rattle.exchange.proofs.Core as core
 use Rattle.exchange.proofs.View.{settings, view, Offers}

@@ -6,7 +6,7 @@ use mathlib.Core.List.{List}
 use mathlib.Core.Option.{Option, none, some}
 use Rattle.parameters.specs.declared.Feature.{Feature}
 use Rattle.machine.specs.State.{freshAt}
-use Rattle.handling.specs.Handling.{Message}
+use Rattle.admission.specs.Admission.{Message}
 use Rattle.rounds.specs.Rounds.{left, right, Call, refused, writes, handles}
 use Rattle.exchange.specs.Expected.{Side}
 use Rattle.exchange.proofs.Core.{Settings, advertised, Core, synced, handled, freshMachine, started, gated, recv}

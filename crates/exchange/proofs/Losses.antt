@@ -9,7 +9,7 @@ use Rattle.feature.specs.declared.Peer.{Peer}
 use Rattle.feature.specs.declared.Outcome.{Outcome}
 use Rattle.feature.specs.Outcome.{noPeer, outcome}
 use Rattle.machine.specs.State.{freshAt}
-use Rattle.handling.specs.Handling.{Message}
+use Rattle.admission.specs.Admission.{Message}
 use Rattle.port.specs.Sound.{SoundParameters}
 use Rattle.rounds.specs.Rounds.{left, right, Call, refused, writes, handles}
 use Rattle.exchange.specs.Expected.{Side}

@@ -10,7 +10,7 @@ use Rattle.parameters.specs.declared.Feature.{Feature}
 use Rattle.feature.specs.declared.Outcome.{Outcome}
 use Rattle.feature.specs.Outcome.{Received, outcome}
 use Rattle.machine.specs.State.{next}
-use Rattle.handling.specs.Handling.{Message}
+use Rattle.admission.specs.Admission.{Message}
 use Rattle.exchange.specs.Expected.{Side}
 use Rattle.exchange.proofs.Core.{Settings, advertised, Offer, offerOf, Machine, Core, changed, synced, marked, handled, bump, pending, raises, released, features, gated}
 use Rattle.exchange.proofs.Outcomes.{unchanged, same-offer}

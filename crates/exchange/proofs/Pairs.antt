@@ -2,7 +2,7 @@
 use mathlib.Core.List.{List, [], _∷_, _++_}
 use mathlib.Core.Option.{Option, none, some}
 use mathlib.Core.Path.{_≡_, refl}
-use Rattle.handling.specs.Handling.{Message}
+use Rattle.admission.specs.Admission.{Message}
 use Rattle.rounds.specs.Rounds.{left, right, Refused, Call, refused, writes, handles, quiet}
 use Rattle.exchange.proofs.Core.{Settings, Core, message, started, recv}
 

@@ -24,7 +24,7 @@ use Rattle.port.specs.declared.Written.the-variants as wrote
 use Rattle.port.specs.Parts.{featureOf, releasedOf}
 use Rattle.port.specs.Writing.{frame, written, output}
 use Rattle.port.specs.Sound.{SoundPort}
-use Rattle.handling.specs.Handling.{hasOf, message}
+use Rattle.admission.specs.Admission.{hasOf, message}
 use Rattle.recorder.specs.Recorder as recorder
 use Rattle.calls.proofs.Reachable.{reachable-sound}
 use Rattle.exchange.specs.RoundTrip.{knows, FoundOnce, ReadsBack, RoundTrip, RoundTrips}

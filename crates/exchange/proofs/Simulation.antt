@@ -8,7 +8,9 @@ use Rattle.port.specs.declared.Port.{Port}
 use Rattle.port.specs.Parts.{running}
 use Rattle.sending.specs.Sending.{completed}
 use Rattle.port.specs.Writing as writing
-use Rattle.handling.specs.Handling.{Message, once}
+use Rattle.admission.specs.Admission.{Message}
+use Rattle.handling.specs.Handling.{once}
+use Rattle.admission.specs.Admission as admission
 use Rattle.handling.specs.Handling as handling
 use Rattle.port.specs.Sound.{SoundPort}
 use Rattle.rounds.specs.Rounds.{left, right, write, frame, Call, refused, writes, handles, Ends, afterWrite, onItsWay, delivered, exec, execAll, Accepts, RefusesWrite, RefusesFrame, Answers, Proper}
@@ -68,11 +70,11 @@ given-next own peer p b (some o) (some m) h v k =
 -- a refused frame leaves all but the mark (02, E1)
 refused-next : (own : Settings) (p : Port) (b : Core) (o : List ℕ) → RefusesFrame p o → Runs own p → view p ≡ b →
     Runs own (handling.handled p o .port) × (view (handling.handled p o .port) ≡ b)
-unfolding handling.rejected
+unfolding admission.rejected
 refused-next own p b o a h v =
     let why = a .0 in
-    let k : Bool = handling.breaks why in
-    let q : Port = handling.withBroken p k in
+    let k : Bool = admission.breaks why in
+    let q : Port = admission.withBroken p k in
     let e : handling.handled p o .port ≡ q = refused-marks p o why (a .1) (a .2) in
     let m : Kept p q = kept-marked p k in
     let runs : Runs own q =

@@ -28,6 +28,7 @@ use Rattle.port.specs.Writing as writing
 use Rattle.creation.specs.Creation as creation
 use Rattle.sending.specs.Sending as sending
 use Rattle.events.specs.PortEvents as events
+use Rattle.admission.specs.Admission as admission
 use Rattle.handling.specs.Handling as handling
 use Rattle.rounds.specs.Rounds as ends
 use Rattle.rounds.specs.Rounds.{Ends, Round, rounds, execAll, Proper}
@@ -71,7 +72,7 @@ begun =
 
 -- SeqNo 2, RcvdAckNo 1
 numbers : (execAll (rounds (replicate 5 plainRound)) late .l .control .seq ≡ 2) × (execAll (rounds (replicate 5 plainRound)) late .l .control .rcvd ≡ 1)
-unfolding late created desired versions unwilling lent plainRound layout.headAt contents.foundAgain contents.counts contents.noted reading.onward reading.walkFrom reading.walked layout.isDcbx reading.judgedControl reading.readFrame revisions.hasApplications revising.skipping revising.readFor parameters.featureNumber parameters.goodHalves parameters.sum parameters.validGroups parameters.validFlow parameters.sameName parameters.allFrom parameters.newName parameters.validApplications parameters.valid parameters.ones parameters.localValues parameters.validLocal parameters.clash parameters.clearOf parameters.compatible parameters.isOurs parameters.oursOf parameters.ours parameters.fewAndNew parameters.stored parameters.content rules.judged rules.outcome machine.freshAt machine.releaseTlv turn.acknowledged turn.received machine.differing machine.marked writing.subTlvs writing.frame writing.toWrite writing.asks writing.written writing.output sending.unacknowledged sending.raisesSeqNo sending.sent events.becomes creation.started handling.exchanged handling.once handling.steps1to4 handling.breaks handling.rejected handling.frameEvent handling.accepted handling.given handling.handled ends.other ends.afterWrite ends.delivered ends.exec ends.execAll ends.quiet ends.maybe ends.writeOf ends.handleOf ends.calls ends.rounds same
+unfolding late created desired versions unwilling lent plainRound layout.headAt contents.foundAgain contents.counts contents.noted reading.onward reading.walkFrom reading.walked layout.isDcbx reading.judgedControl reading.readFrame revisions.hasApplications revising.skipping revising.readFor parameters.featureNumber parameters.goodHalves parameters.sum parameters.validGroups parameters.validFlow parameters.sameName parameters.allFrom parameters.newName parameters.validApplications parameters.valid parameters.ones parameters.localValues parameters.validLocal parameters.clash parameters.clearOf parameters.compatible parameters.isOurs parameters.oursOf parameters.ours parameters.fewAndNew parameters.stored parameters.content rules.judged rules.outcome machine.freshAt machine.releaseTlv turn.acknowledged turn.received machine.differing machine.marked writing.subTlvs writing.frame writing.toWrite writing.asks writing.written writing.output sending.unacknowledged sending.raisesSeqNo sending.sent events.becomes creation.started handling.exchanged handling.once handling.steps1to4 admission.breaks admission.rejected handling.frameEvent handling.accepted handling.given handling.handled ends.other ends.afterWrite ends.delivered ends.exec ends.execAll ends.quiet ends.maybe ends.writeOf ends.handleOf ends.calls ends.rounds same
 numbers = (refl, refl)
 
 pub six-are-needed : (c : Ends) × Begun c × (rs : List Round) × (length rs ≡ 5) × Proper (rounds rs) c

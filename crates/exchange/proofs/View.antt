@@ -12,7 +12,8 @@ use Rattle.port.specs.declared.Released.{Released}
 use Rattle.port.specs.Parts.{featureOf, releasedOf, withControl, release, running}
 use Rattle.sending.specs.Sending.{withSeq, step5, completed}
 use Rattle.sending.specs.Sending as sending
-use Rattle.handling.specs.Handling.{Message, met, exchanged, once, withBroken}
+use Rattle.admission.specs.Admission.{Message, met, withBroken}
+use Rattle.handling.specs.Handling.{exchanged, once}
 use Rattle.exchange.specs.Expected.{Side, sideOf}
 use Rattle.exchange.proofs.Core as core
 use Rattle.exchange.proofs.Core.{Settings, Core, Offer, offerOf, machineOf}

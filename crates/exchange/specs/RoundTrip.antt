@@ -21,7 +21,7 @@ use Rattle.port.specs.declared.Written.the-variants as wrote
 use Rattle.port.specs.Parts.{featureOf, releasedOf, three}
 use Rattle.port.specs.Writing.{frame, written, output}
 use Rattle.port.specs.Sound.{SoundPort}
-use Rattle.handling.specs.Handling.{message}
+use Rattle.admission.specs.Admission.{message}
 use Rattle.recorder.specs.declared.Recorder.{Recorder}
 use Rattle.recorder.specs.Recorder.{portAt}
 use Rattle.recorder.specs.Recorder as recorder

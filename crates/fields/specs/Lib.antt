@@ -1,3 +1,3 @@
-pub mod Forms
-pub mod FormsLaws
+pub mod Fields
+pub mod FieldsLaws
 pub mod ReadingLaws

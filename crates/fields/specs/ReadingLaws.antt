@@ -7,16 +7,17 @@ use mathlib.Core.List.{List, [], _∷_}
 use lib.Dec.{ltb}
 use lib.ListN.{length, set, replicate}
 use borrow.Author.Tests.{ltb-true, ltb-false}
-use Rattle.fields.specs.declared.Field.{Field}
-use Rattle.fields.specs.declared.Field.the-variants.{End}
-use Rattle.fields.specs.declared.Form.{Form}
+use Rattle.grammar.specs.declared.Field.{Field}
+use Rattle.grammar.specs.declared.Field.the-variants.{End}
+use Rattle.grammar.specs.declared.Form.{Form}
 use Rattle.fields.specs.declared.Values.{Values}
 use Rattle.words.specs.declared.Number.{Number}
 use Rattle.words.specs.declared.Number.the-variants.{Is, Not}
 use Rattle.words.specs.Text.{words}
-use Rattle.fields.specs.Forms.{fieldNumber, due, mayEnd, onward, valuesFrom, valuesOf}
+use Rattle.grammar.specs.Grammar.{due, mayEnd}
+use Rattle.fields.specs.Fields.{fieldNumber, onward, valuesFrom, valuesOf}
 use Rattle.words.specs.StepsLaws.{firstWord, rest}
-use Rattle.fields.specs.FormsLaws.{due-last}
+use Rattle.grammar.specs.GrammarLaws.{due-last}
 use Rattle.words.specs.WordsLaws.{words-over, words-more}
 
 -- a word that is what is due stands before place 57

@@ -1,51 +1,15 @@
-// The words of a setting behind `max N`, or behind `set` and its feature, and the parameters that they give.
+// The words of a setting, read, and the parameters that they give.
 ghost use mathlib.Core.Path.{_≡_};
-ghost use Prim.Native.Nat.{_≤_, _<_, _%_};
+ghost use Prim.Native.Nat.{_≤_, _<_};
 ghost use lib.Dec.{eqb};
-ghost use lib.ListN.{length, getD};
+ghost use lib.ListN.{length};
 ghost use Rattle.octets.specs.Octets.{at, same};
 ghost use Rattle.words.specs.Text.{words, listed, filled};
-ghost use Rattle.fields.specs.Forms.{nameText, said, selector, fieldNumber, switches, due, mayEnd, valuesOf, parameterCount, entryOctet, groupsOctet, parameterAt};
+ghost use Rattle.fields.specs.Fields.{nameText, said, selector, fieldNumber, valuesOf, parameterCount, entryOctet, groupsOctet, parameterAt};
+use grammar::Field;
+use grammar::Form;
+use grammar::Name;
 use words::Number;
-
-// The words of settings that stand as they are.
-pub enum Name {
-    Control,
-    Groups,
-    Flow,
-    Applications,
-    Max,
-    Advertise,
-    Enable,
-    Willing,
-    Priorities,
-    Percentages,
-    Mask,
-    Classes,
-    Revision,
-}
-
-// What a word is to be: a fixed word, a bit, a number up to a limit, two or four hex digits, or the octets of parameters. Where
-// a selector or `parameters` is due the line may also end, and nothing stands behind its end.
-pub enum Field {
-    Word(Name),
-    Bit,
-    Decimal(u16),
-    Hex2,
-    Hex4,
-    Selector,
-    Parameters,
-    Octets,
-    End,
-}
-
-// The words of a setting: those of each feature, or its parameters as octets.
-pub enum Form {
-    Groups,
-    Flow,
-    Applications,
-    Plain,
-}
 
 // The words of a line up to the first that is not what is due: its place, what is due there, and the numbers of those before it,
 // zero past them. `good` says that the line ends there, and may.
@@ -64,13 +28,6 @@ fn number_at(v: &[usize], i: usize) -> usize
         return v[i];
     }
     0
-}
-
-// The low octet of a number.
-pub fn low(n: usize) -> u8
-    ensures { λ r. ⌜ r ≡ n % 256 ⌝ }
-{
-    (n % 256) as u8
 }
 
 fn bit(w: &[u8]) -> Number
@@ -182,133 +139,6 @@ pub fn is_over(s: &[u8]) -> bool
     w.len() == 0
 }
 
-// `advertise B enable B willing B`
-fn due_switch(i: usize) -> Field
-    requires { ⌜ i < 6 ⌝ }
-    ensures { λ r. ⌜ r ≡ getD switches i Field.End ⌝ }
-{
-    if i == 0 {
-        return Field::Word(Name::Advertise);
-    }
-    if i == 2 {
-        return Field::Word(Name::Enable);
-    }
-    if i == 4 {
-        return Field::Word(Name::Willing);
-    }
-    Field::Bit
-}
-
-fn due_groups(i: usize) -> Field
-    ensures { λ r. ⌜ r ≡ due Form.Groups i ⌝ }
-{
-    if i < 6 {
-        return due_switch(i);
-    }
-    if i == 6 {
-        return Field::Word(Name::Priorities);
-    }
-    if i < 15 {
-        return Field::Decimal(15);
-    }
-    if i == 15 {
-        return Field::Word(Name::Percentages);
-    }
-    if i < 24 {
-        return Field::Decimal(255);
-    }
-    if i == 24 {
-        return Field::Word(Name::Classes);
-    }
-    if i == 25 {
-        return Field::Decimal(255);
-    }
-    Field::End
-}
-
-fn due_flow(i: usize) -> Field
-    ensures { λ r. ⌜ r ≡ due Form.Flow i ⌝ }
-{
-    if i < 6 {
-        return due_switch(i);
-    }
-    if i == 6 {
-        return Field::Word(Name::Mask);
-    }
-    if i == 7 {
-        return Field::Hex2;
-    }
-    if i == 8 {
-        return Field::Word(Name::Classes);
-    }
-    if i == 9 {
-        return Field::Decimal(255);
-    }
-    Field::End
-}
-
-fn due_applications(i: usize) -> Field
-    ensures { λ r. ⌜ r ≡ due Form.Applications i ⌝ }
-{
-    if i < 6 {
-        return due_switch(i);
-    }
-    if 57 <= i {
-        return Field::End;
-    }
-    if i % 3 == 0 {
-        return Field::Selector;
-    }
-    if i % 3 == 1 {
-        return Field::Hex4;
-    }
-    Field::Hex2
-}
-
-fn due_plain(i: usize) -> Field
-    ensures { λ r. ⌜ r ≡ due Form.Plain i ⌝ }
-{
-    if i < 6 {
-        return due_switch(i);
-    }
-    if i == 6 {
-        return Field::Parameters;
-    }
-    if i == 7 {
-        return Field::Octets;
-    }
-    Field::End
-}
-
-// What the word at place `i` of a setting is to be.
-fn due(f: Form, i: usize) -> Field
-    ensures { λ r. ⌜ r ≡ due f i ⌝ }
-{
-    match f {
-        Form::Groups => due_groups(i),
-        Form::Flow => due_flow(i),
-        Form::Applications => due_applications(i),
-        Form::Plain => due_plain(i),
-    }
-}
-
-// Whether a line may end where a field is due.
-fn may_end(f: Field) -> bool
-    ensures { λ r. ⌜ r ≡ mayEnd f ⌝ }
-{
-    match f {
-        Field::Word(_) => false,
-        Field::Bit => false,
-        Field::Decimal(_) => false,
-        Field::Hex2 => false,
-        Field::Hex4 => false,
-        Field::Selector => true,
-        Field::Parameters => true,
-        Field::Octets => false,
-        Field::End => true,
-    }
-}
-
 // Reads the words of a setting. At place 57 every form has ended, so no word gets to place 58.
 pub fn read_form(f: Form, s: &[u8]) -> Values
     ensures { λ r. ⌜ (r ≡ valuesOf f (words (now (s .entry)))) × (r .place ≤ 57) ⌝ }
@@ -317,11 +147,11 @@ pub fn read_form(f: Form, s: &[u8]) -> Values
     let mut i: usize = 0;
     let mut left = s;
     while i < 58 {
-        let d = due(f, i);
+        let d = grammar::due(f, i);
         let w = words::word(left);
         if w.len() == 0 {
             return Values {
-                good: may_end(d),
+                good: grammar::may_end(d),
                 place: i,
                 due: d,
                 numbers: numbers,
@@ -383,10 +213,10 @@ fn entry_octet(v: &[usize], j: usize, k: usize) -> u8
 {
     let id = number_at(v, j + 1);
     if k == 0 {
-        return low(id / 256);
+        return words::low(id / 256);
     }
     if k == 1 {
-        return low(id);
+        return words::low(id);
     }
     if k == 2 {
         return (number_at(v, j) % 4) as u8;
@@ -397,7 +227,7 @@ fn entry_octet(v: &[usize], j: usize, k: usize) -> u8
     if k == 4 {
         return 33;
     }
-    low(number_at(v, j + 2))
+    words::low(number_at(v, j + 2))
 }
 
 // Octet `i` of the group numbers, two an octet, and of the percentages and the number of classes.
@@ -411,9 +241,9 @@ fn groups_octet(v: &[usize], i: usize) -> u8
         return (high * 16 + low) as u8;
     }
     if i < 12 {
-        return low(number_at(v, 12 + i));
+        return words::low(number_at(v, 12 + i));
     }
-    low(number_at(v, 13 + i))
+    words::low(number_at(v, 13 + i))
 }
 
 // Octet `i` of the parameters.
@@ -423,7 +253,7 @@ fn parameter_at(f: Form, v: &[usize], i: usize) -> u8
 {
     match f {
         Form::Groups => groups_octet(v, i),
-        Form::Flow => low(number_at(v, 7 + 2 * i)),
+        Form::Flow => words::low(number_at(v, 7 + 2 * i)),
         Form::Applications => entry_octet(v, 6 + i / 6 * 3, i % 6),
         Form::Plain => 0,
     }

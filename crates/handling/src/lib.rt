@@ -11,8 +11,10 @@ ghost use Rattle.turn.specs.TurnLaws.{peerParametersAfter};
 ghost use Rattle.parameters.specs.declared.Feature.the-variants.{Groups, Flow, Applications};
 ghost use Rattle.port.specs.Parts.{release, running};
 ghost use Rattle.events.specs.PortEvents.{becomes};
-ghost use Rattle.handling.specs.Handling.{newlyMarked, breaks, rejected, handled};
-ghost use Rattle.handling.specs.HandlingLaws.{Admits, afterIn, changeOf, heardOf, unreleased, waitsBy};
+ghost use Rattle.admission.specs.AdmissionLaws.{Admits};
+ghost use Rattle.handling.specs.Handling.{handled};
+ghost use Rattle.handling.specs.HandlingLaws.{afterIn, changeOf, unreleased, waitsBy};
+use admission::Heard;
 use contents::Contents;
 use contents::Found;
 use contents::Reading;
@@ -26,7 +28,6 @@ use port::Event;
 use port::Notices;
 use port::Port;
 use port::Raised;
-use tlv::Refusal;
 use turn::Course;
 use turn::Turn;
 
@@ -42,70 +43,6 @@ struct Change {
     notices: Notices,
 }
 
-// Reads a frame that arrived, if the port takes it.
-pub fn admit(p: Port, s: &[u8]) -> Reading
-    ensures { λ r. ⌜ Admits p (now (s .entry)) r ⌝ }
-{
-    if !port::writing::running(p) {
-        return Reading::Refused(Refusal::NotRunning, 0);
-    }
-    if p.several {
-        return Reading::Refused(Refusal::SeveralNeighbours, 0);
-    }
-    let revision = p.revision;
-    reading::read_for(revision, s)
-}
-
-// A sub-TLV's value, as a part of the frame. Here and in `hear` the `requires` is what `admit` ensures of a frame that is accepted.
-pub fn part(s: &[u8], found: Found) -> &[u8]
-    requires { ⌜ found .start + found .length ≤ length (now s) ⌝ }
-    ensures { λ r. ⌜ now r ≡ valueOf (now (s .entry)) found ⌝ }
-{
-    let start = found.start;
-    let end = start + found.length;
-    &s[start..end]
-}
-
-// The way that the frame takes, and the control after steps 1 to 3.
-pub struct Heard {
-    pub course: Course,
-    pub control: Control,
-}
-
-pub fn hear(s: &[u8], c: Contents, k: Control) -> Heard
-    requires { ⌜ Inside (now s) c ⌝ }
-    ensures { λ r. ⌜ r ≡ heardOf (now (s .entry)) c k ⌝ }
-{
-    let found = c.control;
-    let mut next = k;
-    next.seen = true;
-    next.broken = false;
-    if 1 < found.count {
-        next.duplicate = true;
-        return Heard {
-            course: Course::Twice,
-            control: next,
-        };
-    }
-    let value = part(s, found);
-    let oper = octets::octet(value, 0);
-    let low = feature::lower(k.max, octets::octet(value, 1));
-    next.oper = low;
-    next.duplicate = false;
-    if oper != low {
-        return Heard {
-            course: Course::OtherVersion,
-            control: next,
-        };
-    }
-    next.ack = octets::numbers::number4(value, 2);
-    next.rcvd = octets::numbers::number4(value, 6);
-    Heard {
-        course: Course::Exchange,
-        control: next,
-    }
-}
-
 // Steps 1 to 5 for one feature. Each feature has a function of its own, with one caller: it is inlined there, and what it calls is
 // made for the feature; no state is then copied for a call.
 fn turn_of_groups(x: State, h: Heard, seq: u32, s: &[u8], found: Found) -> Turn
@@ -115,7 +52,7 @@ fn turn_of_groups(x: State, h: Heard, seq: u32, s: &[u8], found: Found) -> Turn
     let course = h.course;
     let k = h.control;
     let o = x.outcome;
-    let value = part(s, found);
+    let value = admission::part(s, found);
     let own = x.setting.desired;
     let desired = octets::first(&own.octets, octets::wide(own.length));
     let d = feature::decide(
@@ -146,7 +83,7 @@ fn turn_of_flow(x: State, h: Heard, seq: u32, s: &[u8], found: Found) -> Turn
     let course = h.course;
     let k = h.control;
     let o = x.outcome;
-    let value = part(s, found);
+    let value = admission::part(s, found);
     let own = x.setting.desired;
     let desired = octets::first(&own.octets, octets::wide(own.length));
     let d = feature::decide(
@@ -168,7 +105,7 @@ fn turn_of_applications(x: State, h: Heard, seq: u32, s: &[u8], found: Found) ->
     let course = h.course;
     let k = h.control;
     let o = x.outcome;
-    let value = part(s, found);
+    let value = admission::part(s, found);
     let own = x.setting.desired;
     let desired = octets::first(&own.octets, octets::wide(own.length));
     let d = feature::decide(
@@ -199,19 +136,6 @@ fn waits(t: Turn) -> bool
     !t.syncd
 }
 
-// The notice of a mark that was off before.
-fn newly_marked(kind: Kind, before: bool, after: bool) -> Raised
-    ensures { λ r. ⌜ r ≡ newlyMarked kind before after ⌝ }
-{
-    if before {
-        return Raised::Nothing;
-    }
-    if after {
-        return Raised::Notice(kind);
-    }
-    Raised::Nothing
-}
-
 // The notice of a feature.
 fn notice(x: State, t: Turn) -> Raised
     ensures { λ r. ⌜ r ≡ becomes (x .outcome .reason) (t .decision .reason) ⌝ }
@@ -230,7 +154,7 @@ fn decide(p: Port, s: &[u8], c: Contents) -> Change
     ensures { λ r. ⌜ r ≡ changeOf (now (s .entry)) c p ⌝ }
 {
     let old = p.control;
-    let h = hear(s, c, old);
+    let h = admission::hear(s, c, old);
     let course = h.course;
     let a = turn_of_applications(p.applications, h, old.seq, s, c.applications);
     let g = turn_of_groups(p.groups, h, old.seq, s, c.groups);
@@ -238,7 +162,7 @@ fn decide(p: Port, s: &[u8], c: Contents) -> Change
     let up = sending::raises_seq(h.control, waits(g) | waits(w) | waits(a));
     let control = sending::count(h.control, up);
     let same = port::writing::same_control(old, control);
-    let x = newly_marked(Kind::DuplicateControl, old.duplicate, control.duplicate);
+    let x = admission::newly_marked(Kind::DuplicateControl, old.duplicate, control.duplicate);
     let y = notice(p.groups, g);
     let z = notice(p.flow, w);
     let v = notice(p.applications, a);
@@ -272,7 +196,7 @@ fn peer_parameters(
     ensures { λ r. ⌜ r ≡ peerParametersAfter course f (valueOf (now (s .entry)) found) (t .decision .held) x ⌝ }
 {
     let d = t.decision;
-    turn::peer_parameters_after(f, x, course, d.held, part(s, found))
+    turn::peer_parameters_after(f, x, course, d.held, admission::part(s, found))
 }
 
 // The port with all features released (02, E5).
@@ -332,47 +256,14 @@ pub fn accept(p: Port, s: &[u8], c: Contents) -> Event
     }
 }
 
-// Whether a refusal says that the frame's control is broken.
-fn breaks(why: Refusal) -> bool
-    ensures { λ r. ⌜ r ≡ breaks why ⌝ }
-{
-    let n = tlv::refusal_number(why);
-    if n == 7 {
-        return true;
-    }
-    n == 8
-}
-
-// A frame that is refused changes nothing but the mark of a broken control and its notice (02, E1); 3 to 8 come with the reader's
-// place.
-pub fn reject(why: Refusal, place: usize, p: Port) -> Event
-    ensures { λ r. ⌜ r ≡ rejected why place p ⌝ }
-{
-    let k = p.control;
-    let broken = breaks(why);
-    let x = newly_marked(Kind::ControlError, k.broken, broken);
-    let mut next = p;
-    next.control.broken = broken;
-    Event {
-        answer: Answer::Refused(why, place),
-        port: next,
-        notices: Notices {
-            port: x,
-            groups: Raised::Nothing,
-            flow: Raised::Nothing,
-            applications: Raised::Nothing,
-        },
-    }
-}
-
 // Handles a frame that arrived (01, Handling a frame).
 pub fn handle(p: Port, s: &[u8]) -> Event
     ensures { λ r. ⌜ r ≡ handled p (now (s .entry)) ⌝ }
 {
-    let read = admit(p, s);
+    let read = admission::admit(p, s);
     match read {
         Reading::Refused(why, place) => {
-            return reject(why, place, p);
+            return admission::reject(why, place, p);
         }
         Reading::Accepted(contents) => {
             return accept(p, s, contents);

@@ -34,7 +34,8 @@ use Rattle.turn.specs.Turn.{controlTwice, acknowledged, received}
 use Rattle.port.specs.declared.Port.{Port}
 use Rattle.port.specs.Parts.{switchedOff, featureOf, releasedOf, withControl, release}
 use Rattle.sending.specs.Sending.{withSeq, raisesSeqNo, sent, step5, completed}
-use Rattle.handling.specs.Handling.{Message, message, twice, met, exchanged, once, steps1to4}
+use Rattle.admission.specs.Admission.{Message, message, met}
+use Rattle.handling.specs.Handling.{twice, exchanged, once, steps1to4}
 use Rattle.port.specs.Sound.{SoundParameters, SoundSetting, SoundPeer, adoptsBy, SoundState, SoundControl, SoundRelease, NoApplications, SoundPort}
 use Rattle.feature.specs.RulesLaws.{judgedBy, judged-by, judged-oper, judged-peer}
 

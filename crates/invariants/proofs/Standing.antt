@@ -38,7 +38,8 @@ use Rattle.events.specs.PortEvents.{event, unchanged, refused}
 use Rattle.creation.specs.Creation.{started, createdPort, settingsValid, blankParameters, blankState, blankPort}
 use Rattle.flags.specs.Flags.{restarts, flagNotice, flagSet, flagged, peerGone}
 use Rattle.changes.specs.Changes.{withFeature, withSetting, settingChanged, setTo, changedFeature, changedApplications, changedSetting}
-use Rattle.handling.specs.Handling.{Message, message, twice, met, exchanged, once, steps1to4, frameEvent, accepted, breaks, withBroken, rejected, given, handled}
+use Rattle.admission.specs.Admission.{Message, message, met, breaks, withBroken, rejected}
+use Rattle.handling.specs.Handling.{twice, exchanged, once, steps1to4, frameEvent, accepted, given, handled}
 use Rattle.port.specs.Sound.{SoundSetting, SoundState, SoundPort, InStep}
 use Rattle.invariants.proofs.Tests.{beq-not, each-true}
 use Rattle.invariants.proofs.Soundness.{Octets, sound-stored, adopts-none, judged-sound, next-small, port-sound, present-sound, sent-sound, completed-sound, steps-sound}

@@ -25,7 +25,8 @@ use Rattle.port.specs.Parts.{featureOf, releasedOf, withControl, withFeatures, 
 use Rattle.sending.specs.Sending.{withSeq, unacknowledged, raisesSeqNo, sent, freshParts, freshPort, step5, completed}
 use Rattle.changes.specs.Changes.{withFeature}
 use Rattle.port.specs.Sound.{InStep}
-use Rattle.handling.specs.Handling.{Message, message, twice, met, exchanged, once, steps1to4}
+use Rattle.admission.specs.Admission.{Message, message, met}
+use Rattle.handling.specs.Handling.{twice, exchanged, once, steps1to4}
 use Rattle.invariants.proofs.Tests.{or-cases, some-false}
 use Rattle.invariants.proofs.Fresh.{fresh-setting}
 

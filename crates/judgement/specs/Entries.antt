@@ -9,12 +9,12 @@ use Rattle.port.specs.declared.Flag.the-variants as flag
 use Rattle.recorder.specs.declared.Change.{Change}
 use Rattle.recorder.specs.declared.Change.the-variants as change
 use Rattle.recorder.specs.Recorder.{happens}
-use Rattle.script.specs.declared.Flag as script
-use Rattle.script.specs.declared.Flag.the-variants as word
-use Rattle.script.specs.declared.Kind.{Kind}
-use Rattle.script.specs.declared.Kind.the-variants as said
-use Rattle.script.specs.declared.Line.{Line}
-use Rattle.script.specs.Lines.{eventLine}
+use Rattle.lines.specs.declared.Flag as lines
+use Rattle.lines.specs.declared.Flag.the-variants as word
+use Rattle.lines.specs.declared.Kind.{Kind}
+use Rattle.lines.specs.declared.Kind.the-variants as said
+use Rattle.lines.specs.declared.Line.{Line}
+use Rattle.script.specs.Events.{eventLine}
 use Rattle.capture.specs.declared.Form.{Form}
 use Rattle.capture.specs.declared.Form.the-variants.{FromA, FromB, Other}
 use Rattle.capture.specs.Capture.{formOf, frameOf}
@@ -29,7 +29,7 @@ pub data Entry : Type 0 where
   Changed : Change → List ℕ → Entry
   Passed : Entry
 
-unfoldable pub flagOf : script.Flag → Flag
+unfoldable pub flagOf : lines.Flag → Flag
 flagOf word.Admin = flag.Admin
 flagOf word.Receive = flag.Receive
 flagOf word.Transmit = flag.Transmit

@@ -10,12 +10,13 @@ use Rattle.port.specs.declared.Flag.{Flag}
 use Rattle.recorder.specs.declared.Change.{Change}
 use Rattle.recorder.specs.declared.Change.the-variants as change
 use Rattle.recorder.specs.Recorder.{happens}
-use Rattle.script.specs.declared.Flag as script
-use Rattle.script.specs.declared.Kind.{Kind}
-use Rattle.script.specs.declared.Kind.the-variants as said
-use Rattle.script.specs.declared.Line.{Line}
+use Rattle.lines.specs.declared.Flag as lines
+use Rattle.lines.specs.declared.Kind.{Kind}
+use Rattle.lines.specs.declared.Kind.the-variants as said
+use Rattle.lines.specs.declared.Line.{Line}
 use Rattle.words.specs.Text.{octetsOf, filled}
-use Rattle.script.specs.Lines.{lineOf, eventLine}
+use Rattle.lines.specs.Lines.{lineOf}
+use Rattle.script.specs.Events.{eventLine}
 use Rattle.capture.specs.declared.Form.{Form}
 use Rattle.capture.specs.declared.Form.the-variants.{FromA, FromB, Other}
 use Rattle.capture.specs.Capture.{formOf, frameOf}
@@ -35,7 +36,7 @@ use Rattle.judgement.specs.Steps.{rejectedWith, sentAt, withEntry, withL
 -- ---- what a line of `desk` changes
 
 module _ (k : Kind) where
-  pub told-flag : {x : script.Flag} {on : Bool} {f : Flag} → k ≡ said.Flag x on → f ≡ flagOf x → told.Change (change.Flag f on) ≡ toldBy k
+  pub told-flag : {x : lines.Flag} {on : Bool} {f : Flag} → k ≡ said.Flag x on → f ≡ flagOf x → told.Change (change.Flag f on) ≡ toldBy k
   unfolding toldBy
   told-flag e ef = rw (e, ef) refl
 

@@ -6,11 +6,11 @@ ghost use Rattle.judgement.specs.Entries.{flagOf, toldBy};
 ghost use Rattle.judgement.specs.Courses.{sinceBy, takenBy, sentOn, givenOn, changedOn, passedOn};
 ghost use Rattle.judgement.specs.Steps.{rejectedWith, unjudged};
 use feature::Switches;
+use lines::Kind;
 use port::Answer;
 use port::Flag;
 use port::Port;
 use recorder::Change;
-use script::Kind;
 
 // Lines by their kind: frames that the end sent and was given, changes, and lines that are passed over. `since` is the last line
 // behind which the port wrote otherwise than before, `taken` the last whose frame or change it took; 0 stands for its creation. No
@@ -44,14 +44,14 @@ pub enum Told {
 
 // ---- changes
 
-fn flag_of(f: script::Flag) -> Flag
+fn flag_of(f: lines::Flag) -> Flag
     ensures { λ r. ⌜ r ≡ flagOf f ⌝ }
 {
     match f {
-        script::Flag::Admin => Flag::Admin,
-        script::Flag::Receive => Flag::Receive,
-        script::Flag::Transmit => Flag::Transmit,
-        script::Flag::Several => Flag::Several,
+        lines::Flag::Admin => Flag::Admin,
+        lines::Flag::Receive => Flag::Receive,
+        lines::Flag::Transmit => Flag::Transmit,
+        lines::Flag::Several => Flag::Several,
     }
 }
 

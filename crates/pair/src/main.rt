@@ -39,8 +39,8 @@ fn behind_round(e: Ends) -> Ends {
     let b = p.right;
     let of_a = p.of_left;
     let of_b = p.of_right;
-    let log_a = recorder::keep(e.log_a, PORT, of_a);
-    let log_b = recorder::keep(e.log_b, PORT, of_b);
+    let log_a = logging::keep(e.log_a, PORT, of_a);
+    let log_b = logging::keep(e.log_b, PORT, of_b);
     Ends {
         a: a,
         b: b,

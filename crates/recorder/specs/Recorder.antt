@@ -1,35 +1,29 @@
 -- 02, E10: a recorder, "four ports that share one log of 64 notices", and its operations. Each names its port by a number.
 use Prim.Native.Nat.{ℕ, _-_}
 use mathlib.Core.Path.{_≡_}
-use mathlib.Core.Bool.{Bool, true, false, not, _||_}
 use mathlib.Core.List.{List}
 use lib.ListN.{getD, set, replicate}
-use Rattle.octets.specs.Words.{if_then_else_, _is_}
-use Rattle.tlv.specs.declared.Refusal.the-variants.{NoNotice, NoPort}
+use Rattle.octets.specs.Words.{if_then_else_}
+use Rattle.tlv.specs.declared.Refusal.the-variants.{NoPort}
 use Rattle.parameters.specs.declared.Feature.{Feature}
 use Rattle.feature.specs.declared.Switches.{Switches}
-use Rattle.notices.specs.declared.Log.{Log}
-use Rattle.notices.specs.Notices.{isPort, emptyLog, countOf, oldestOf, withoutOldest, loggedAll}
+use Rattle.notices.specs.Notices.{isPort, emptyLog}
 use Rattle.port.specs.declared.Port.{Port}
 use Rattle.port.specs.declared.Versions.{Versions}
-use Rattle.port.specs.declared.Raised.{Raised}
-use Rattle.port.specs.declared.Raised.the-variants as raised
-use Rattle.port.specs.declared.Notices.{Notices}
 use Rattle.port.specs.declared.Event.{Event}
 use Rattle.port.specs.declared.Written.{Written}
 use Rattle.port.specs.declared.Written.the-variants as wrote
 use Rattle.creation.specs.Creation.{blankPort}
-use Rattle.events.specs.PortEvents.{refused, inOrder}
+use Rattle.events.specs.PortEvents.{refused}
 use Rattle.flags.specs.Flags as flags
 use Rattle.changes.specs.Changes as changes
 use Rattle.creation.specs.Creation as creation
 use Rattle.handling.specs.Handling as handling
 use Rattle.port.specs.Writing as writing
+use Rattle.logging.specs.Logging.{kept}
 use Rattle.recorder.specs.declared.Recorder.{Recorder}
 use Rattle.recorder.specs.declared.Change.{Change}
 use Rattle.recorder.specs.declared.Change.the-variants.{Frame, PeerGone, Flag, Setting}
-use Rattle.recorder.specs.declared.Took.the-variants.{Notice, Refused}
-use Rattle.recorder.specs.declared.Taken.{Taken}
 
 -- ---- ports by their numbers
 
@@ -58,18 +52,6 @@ changed n p x o = if isPort n then happens p x o else refused NoPort p
 unfoldable pub created : ℕ → Port → Versions → (Feature → Switches) → (Feature → List ℕ) → Event
 created n p v w o = if isPort n then creation.created v w o p else refused NoPort p
 
--- what an event at port n raised is written into the log, with its number
-abbrev pub kept : Log → ℕ → Notices → Log
-kept l n x = loggedAll l (inOrder n x)
-
--- whether anything was raised: an event that raised nothing leaves the log
-unfoldable pub isRaised : Raised → Bool
-isRaised raised.Nothing = false
-isRaised (raised.Notice k) = true
-
-unfoldable pub isSilent : Notices → Bool
-isSilent x = not (isRaised (x .port) || isRaised (x .groups) || isRaised (x .flow) || isRaised (x .applications))
-
 -- an event at port n: the port is stored, and what it raised is written into the log; a number that names no port changes nothing
 unfoldable pub stored : Recorder → ℕ → Event → Recorder
 stored r n e =
@@ -87,11 +69,3 @@ output n p out = if isPort n then writing.output p out else out
 pub record Wrote (n : ℕ) (p : Port) (out : List ℕ) (r : Written) (now : List ℕ) : Type 0 where
   pub answers : r ≡ written n p out
   pub octets : now ≡ output n p out
-
--- ---- "Taking is by port .., and refusal 12 is judged per port."
-
-unfoldable pub taken : ℕ → Log → Taken
-taken n l =
-    if not (isPort n) then record { answer = Refused NoPort; log = l }
-    else if countOf n l is 0 then record { answer = Refused NoNotice; log = l }
-    else record { answer = Notice (oldestOf n l); log = withoutOldest n l }

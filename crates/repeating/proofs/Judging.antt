@@ -39,7 +39,8 @@ use Rattle.events.specs.PortEvents.{event, unchanged, refused}
 use Rattle.creation.specs.Creation.{started, createdPort, blankPort}
 use Rattle.flags.specs.Flags.{restarts, flagNotice, flagSet, flagged, peerGone}
 use Rattle.changes.specs.Changes.{withFeature, withSetting, settingChanged, setTo, changedFeature, changedApplications, changedSetting}
-use Rattle.handling.specs.Handling.{Message, message, twice, met, exchanged, once, steps1to4, frameEvent, accepted, rejected, given, handled}
+use Rattle.admission.specs.Admission.{Message, message, met, rejected}
+use Rattle.handling.specs.Handling.{twice, exchanged, once, steps1to4, frameEvent, accepted, given, handled}
 use Rattle.invariants.proofs.Tests.{beq-not}
 
 -- ---- outcomes

@@ -40,9 +40,11 @@ use Rattle.port.specs.Writing.{controlValue, asks}
 use Rattle.port.specs.WritingLaws.{asks-control}
 use Rattle.sending.specs.Sending.{unacknowledged, completed}
 use Rattle.events.specs.PortEvents.{becomes}
-use Rattle.handling.specs.declared.Heard.{Heard}
-use Rattle.handling.specs.Handling.{message, hasOf, steps1to4, newlyMarked, frameEvent, accepted, rejected, given, handled}
-use Rattle.handling.specs.HandlingLaws.{controlBy, heardOf, stateBy, upBy, portBy, completed-by}
+use Rattle.admission.specs.declared.Heard.{Heard}
+use Rattle.admission.specs.Admission.{message, hasOf, newlyMarked, rejected}
+use Rattle.handling.specs.Handling.{steps1to4, frameEvent, accepted, given, handled}
+use Rattle.admission.specs.AdmissionLaws.{controlBy, heardOf}
+use Rattle.handling.specs.HandlingLaws.{stateBy, upBy, portBy, completed-by}
 use Rattle.repeating.specs.declared.Repetition.{Repetition}
 use Rattle.repeating.specs.Repeating.{otherwise, flagsAre, wholeEntries, holdsOf, repeatsHeld, repeatsIn, isExchange, repeatsAll, repeatIn, repeatGiven, repetition}
 use Rattle.repeating.proofs.Judging.{JudgedState, Judged}

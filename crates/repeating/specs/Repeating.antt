@@ -27,7 +27,7 @@ use Rattle.port.specs.declared.Answer.the-variants.{Done}
 use Rattle.port.specs.Parts.{withControl, running}
 use Rattle.port.specs.Writing.{controlValue}
 use Rattle.events.specs.PortEvents.{silent}
-use Rattle.handling.specs.HandlingLaws.{heardOf}
+use Rattle.admission.specs.AdmissionLaws.{heardOf}
 use Rattle.recorder.specs.declared.Recorder.{Recorder}
 use Rattle.recorder.specs.declared.Change.the-variants.{Frame}
 use Rattle.recorder.specs.Recorder.{portAt, changed}

@@ -23,8 +23,8 @@ use Rattle.notices.specs.Notices.{isPort}
 use Rattle.port.specs.declared.Port.{Port}
 use Rattle.port.specs.Parts.{running}
 use Rattle.port.specs.Writing.{controlValue}
-use Rattle.handling.specs.declared.Heard.{Heard}
-use Rattle.handling.specs.HandlingLaws.{heardOf}
+use Rattle.admission.specs.declared.Heard.{Heard}
+use Rattle.admission.specs.AdmissionLaws.{heardOf}
 use Rattle.repeating.specs.declared.Repetition.{Repetition}
 use Rattle.repeating.specs.Repeating.{otherwise, noneWaits, flagsAre, holdsOf, repeatsHeld, repeatsIn, isExchange, repeatsAll, repeatIn, repeatGiven, repeatOf}
 

@@ -122,7 +122,7 @@ fn repeats_feature(f: Feature, x: State, s: &[u8], found: Found) -> bool
     if found.count != 1 {
         return false;
     }
-    repeats_held(f, x, handling::part(s, found))
+    repeats_held(f, x, admission::part(s, found))
 }
 
 // Whether it brings of each feature what is held: the shortest first, and left at the first that differs.
@@ -155,7 +155,7 @@ fn repeat_in(p: Port, s: &[u8], c: Contents) -> Repetition
     ensures { λ r. ⌜ r ≡ repeatIn (now (s .entry)) c p ⌝ }
 {
     let old = p.control;
-    let h = handling::hear(s, c, old);
+    let h = admission::hear(s, c, old);
     let course = h.course;
     if !is_exchange(course) {
         return no_repetition(old);
@@ -176,14 +176,14 @@ fn repeat_in(p: Port, s: &[u8], c: Contents) -> Repetition
 fn none_waits(n: u8, p: Port) -> bool
     ensures { λ r. ⌜ r ≡ noneWaits n p ⌝ }
 {
-    let takes = recorder::is_port(n) & port::writing::running(p) & !p.several;
+    let takes = logging::is_port(n) & port::writing::running(p) & !p.several;
     takes & p.groups.syncd & p.flow.syncd & p.applications.syncd
 }
 
 // Whether a frame that arrived at port `n`, which is `p` with all features Syncd, repeats what is held of each. It is asked before
 // `recorder::handle`: where it holds, and the port came about by calls, the next port is `p` with this control, nothing is raised
 // and `wish` is the answer (proofs/Reachable: `reachable-repeats`), so that no port need be made or stored. It does not call
-// `handling::admit`, which with two callers would be called out of line, with a copy of the port.
+// `admission::admit`, which with two callers would be called out of line, with a copy of the port.
 pub fn repeat(n: u8, p: Port, s: &[u8]) -> Repetition
     ensures { λ r. ⌜ r ≡ repeatOf n p (now (s .entry)) ⌝ }
 {

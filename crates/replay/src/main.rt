@@ -1,9 +1,9 @@
 // Replays a capture between two ports, and reports what was counted (docs/FORMATS.md, The report of `replay`).
 use console::Lines;
 use console::arguments::Source;
+use counting::Tally;
 use settings::Pair;
 use tally::Replay;
-use tally::Tally;
 
 // How many lines were read.
 fn lines_of(t: Tally) -> u64 {

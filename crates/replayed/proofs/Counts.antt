@@ -21,12 +21,13 @@ use Rattle.capture.specs.declared.Form.the-variants.{FromA, FromB, Other}
 use Rattle.capture.specs.Capture.{formOf, frameOf}
 use Rattle.capture.specs.Feeding.{inTurn}
 use Rattle.counters.specs.declared.Changes.{Changes}
-use Rattle.tally.specs.declared.Tally.{Tally}
+use Rattle.counting.specs.declared.Tally.{Tally}
 use Rattle.replayed.specs.Replay.{End, A, B, Ends, portOf, Step, stepAs, step, run, count, isFrom, isFrame, sentBy, framed, ofOtherForm, refusedWith, reasonAt, hasReason, became, bothSettled, firstSettled}
 use Rattle.numerals.specs.Numerals.{capped}
 use Rattle.counters.specs.Counters.{changed, further, rests}
 use Rattle.replayed.specs.Report.{reasons, settledLine, reportOf, reportOn}
-use Rattle.tally.specs.Steps.{row, atA, atB, passedBy, lineAs, withLine, begun, changesText, settledText, tallyText}
+use Rattle.counting.specs.Steps.{atA, atB, passedBy, lineAs, withLine}
+use Rattle.tally.specs.Steps.{row, begun, changesText, settledText, tallyText}
 use Rattle.replayed.proofs.Rows.{tick, refusals, refusal-row, and-not, reason-row}
 
 -- ---- what was counted, in plain numbers

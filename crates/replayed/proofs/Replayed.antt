@@ -10,7 +10,8 @@ use Rattle.capture.specs.FeedingLaws.{fed-all, finished-all}
 use Rattle.tally.specs.StepLaws.{with-clipped}
 use Rattle.replayed.specs.Replay.{Ends}
 use Rattle.replayed.specs.Report.{reportOn}
-use Rattle.tally.specs.Steps.{withLine, replayOf, fed, finished, begun, started, tallyText, reportLength, reportOutput}
+use Rattle.counting.specs.Steps.{withLine}
+use Rattle.tally.specs.Steps.{replayOf, fed, finished, begun, started, tallyText, reportLength, reportOutput}
 use Rattle.replayed.specs.Replayed.{replayed, portWith, Replays}
 use Rattle.replayed.proofs.Counts.{counted-text}
 

@@ -12,7 +12,7 @@ use Rattle.port.specs.declared.Versions.{Versions}
 use Rattle.creation.specs.Creation.{created, blankPort}
 use Rattle.capture.specs.Capture.{lines}
 use Rattle.capture.specs.Feeding.{inTurn, joined}
-use Rattle.tally.specs.declared.Tally.{Tally}
+use Rattle.counting.specs.declared.Tally.{Tally}
 use Rattle.replayed.specs.Replay.{Ends}
 use Rattle.replayed.specs.Report.{reportOn}
 use Rattle.tally.specs.Steps.{started, fed, finished, tallyText, reportLength, reportOutput}

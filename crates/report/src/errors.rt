@@ -1,10 +1,10 @@
 // What is wrong with a line: the word that is not what is due, or the reason of refusal 9.
 use faults::Fault;
-use fields::Field;
-use fields::Name;
+use grammar::Field;
+use grammar::Name;
+use lines::Due;
+use lines::Unread;
 use printing::forms;
-use script::Due;
-use script::Unread;
 
 // The place among the forms of `due`: of a name, of a field, of all.
 fn name_place(n: Name) -> u64 {

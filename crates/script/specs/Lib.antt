@@ -1,2 +1,2 @@
-pub mod Lines
-pub mod LinesLaws
+pub mod Events
+pub mod EventsLaws

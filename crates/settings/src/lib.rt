@@ -1,21 +1,21 @@
 // The settings of ports, four lines each, three for Rev 1.0, which make a recorder.
+use addressing::PortWord;
 use console::Lines;
 use faults::Fault;
 use feature::Switches;
-use fields::Field;
-use fields::Name;
+use grammar::Field;
+use grammar::Name;
+use lines::Due;
+use lines::Kind;
+use lines::Line;
+use lines::Unread;
 use parameters::Feature;
 use port::Answer;
 use port::Event;
 use port::Port;
 use port::Versions;
 use recorder::Recorder;
-use script::Due;
-use script::Kind;
-use script::Line;
-use script::Part;
-use script::PortWord;
-use script::Unread;
+use setup::Part;
 use tlv::Revision;
 
 // A setting, with the number of its line.
@@ -143,7 +143,7 @@ fn is_read(k: Kind) -> bool {
 // The port of a line, where lines may begin with one.
 fn port_of(line: &[u8], ports: bool) -> PortWord {
     if ports {
-        return script::port_of(line);
+        return addressing::port_of(line);
     }
     PortWord {
         given: false,
@@ -156,7 +156,7 @@ fn read_setting(buffer: &mut [u8], l: Lines, due: Part, ports: bool) -> Read {
     let lines = console::next_line(buffer, l);
     let line = console::line(buffer, lines);
     let w = port_of(line, ports);
-    let said = script::parse_setting(due, script::behind_port(line, w.given));
+    let said = setup::parse_setting(due, addressing::behind_port(line, w.given));
     let kind = said.kind;
     Read {
         good: lines.found & is_read(kind),
@@ -322,7 +322,7 @@ fn unread(out: &mut [u8], line: u64, port: bool, k: Kind) -> usize {
 
 // What the line says that was found last, read as the one that is due.
 fn kind_of(due: Part, line: &[u8], given: bool) -> Kind {
-    let l = script::parse_setting(due, script::behind_port(line, given));
+    let l = setup::parse_setting(due, addressing::behind_port(line, given));
     l.kind
 }
 
@@ -356,7 +356,7 @@ pub fn undue(out: &mut [u8], buffer: &[u8], s: Settings, ports: bool, again: boo
     }
     if !lines.found {
         let behind = std::num::wrapping_add_u64(lines.number, 1);
-        return report::errors::missing(out, 0, behind, script::part_name(due));
+        return report::errors::missing(out, 0, behind, setup::part_name(due));
     }
     undue_line(out, console::line(buffer, lines), s, ports, again)
 }
@@ -412,7 +412,7 @@ struct Ahead {
 // Where settings stand alone, no line behind them is an event.
 fn look_ahead(buffer: &mut [u8], l: Lines, alone: bool) -> Ahead {
     let lines = console::next_line(buffer, l);
-    let more = script::begins_settings(console::line(buffer, lines));
+    let more = setup::begins_settings(console::line(buffer, lines));
     Ahead {
         more: lines.found & (alone | more),
         lines: console::put_back(lines),

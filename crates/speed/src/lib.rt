@@ -134,8 +134,8 @@ pub fn handle_many(creation: &[u8], frames: &[u8], size: usize, times: usize) ->
         let e = recorder::handle(n, held.ports[i], frame);
         let port = e.port;
         held.ports[i] = port;
-        if !recorder::is_silent(e.notices) {
-            let log = recorder::keep(held.log, n, e.notices);
+        if !logging::is_silent(e.notices) {
+            let log = logging::keep(held.log, n, e.notices);
             held.log = log;
         }
         sum = std::num::wrapping_add_u64(sum, told(e));
@@ -163,8 +163,8 @@ pub fn handle_alone(creation: &[u8], frames: &[u8], size: usize, times: usize) -
         }
         let e = recorder::handle(1, port, frame);
         port = e.port;
-        if !recorder::is_silent(e.notices) {
-            log = recorder::keep(log, 1, e.notices);
+        if !logging::is_silent(e.notices) {
+            log = logging::keep(log, 1, e.notices);
         }
         sum = std::num::wrapping_add_u64(sum, told(e));
     }

@@ -1,5 +1,5 @@
--- What the functions do, on the values that they hold: a line at two ports and their counts, octets as they come, and the text of the counts.
--- What this comes to over a whole capture is Replay and Report: see Replayed.
+-- What the functions do, on the values that they hold: octets as they come, and the text of the counts. A line is counting/Steps; what this comes
+-- to over a whole capture is Replay and Report: see Replayed.
 use Prim.Native.Nat.{ℕ}
 use mathlib.Core.Path.{_≡_}
 use mathlib.Core.Bool.{Bool, true, false, _&&_}
@@ -8,76 +8,16 @@ use lib.ListN.{length, drop, replicate}
 use Rattle.octets.specs.Words.{if_then_else_, _below_}
 use Rattle.octets.specs.Texts.{text}
 use Rattle.port.specs.declared.Port.{Port}
-use Rattle.port.specs.declared.Event.{Event}
-use Rattle.port.specs.Replies.{eventReply}
 use Rattle.port.specs.Settled.{settled}
-use Rattle.handling.specs.Handling.{handled}
-use Rattle.capture.specs.declared.Form.{Form}
-use Rattle.capture.specs.declared.Form.the-variants.{FromA, FromB, Other}
-use Rattle.capture.specs.Capture.{formOf, frameOf}
 use Rattle.capture.specs.declared.Held.{Held}
 use Rattle.capture.specs.Steps.{heldOf, pending}
 use Rattle.capture.specs.Feeding.{fedFrom, heldFed, ended}
-use Rattle.numerals.specs.Numerals.{more, decimal}
+use Rattle.numerals.specs.Numerals.{decimal}
 use Rattle.counters.specs.declared.Changes.{Changes}
-use Rattle.counters.specs.Counters.{refusalCounted, changed, further, rests, unchanged}
-use Rattle.tally.specs.declared.Tally.{Tally}
+use Rattle.counters.specs.Counters.{unchanged}
+use Rattle.counting.specs.declared.Tally.{Tally}
+use Rattle.counting.specs.Steps.{withLine}
 use Rattle.tally.specs.declared.Replay.{Replay}
-
--- ---- a line
-
-unfoldable pub atA : Event → Tally → Tally
-atA e t =
-    record {
-      a = e .port;
-      b = t .b;
-      «from_a» = t .«from_a»;
-      «from_b» = more (t .«from_b»);
-      others = t .others;
-      refusals = refusalCounted (t .refusals) (eventReply (e .answer) .number);
-      «of_a» = changed (t .«of_a») (t .a) (e .port);
-      «of_b» = t .«of_b»;
-      settled = rests (t .settled) (e .port) (t .b);
-      frames = further (t .settled) (t .frames);
-    }
-
-unfoldable pub atB : Event → Tally → Tally
-atB e t =
-    record {
-      a = t .a;
-      b = e .port;
-      «from_a» = more (t .«from_a»);
-      «from_b» = t .«from_b»;
-      others = t .others;
-      refusals = refusalCounted (t .refusals) (eventReply (e .answer) .number);
-      «of_a» = t .«of_a»;
-      «of_b» = changed (t .«of_b») (t .b) (e .port);
-      settled = rests (t .settled) (t .a) (e .port);
-      frames = further (t .settled) (t .frames);
-    }
-
-unfoldable pub passedBy : Tally → Tally
-passedBy t =
-    record {
-      a = t .a;
-      b = t .b;
-      «from_a» = t .«from_a»;
-      «from_b» = t .«from_b»;
-      others = more (t .others);
-      refusals = t .refusals;
-      «of_a» = t .«of_a»;
-      «of_b» = t .«of_b»;
-      settled = t .settled;
-      frames = t .frames;
-    }
-
-unfoldable pub lineAs : Form → List ℕ → Tally → Tally
-lineAs FromA frame t = atB (handled (t .b) frame) t
-lineAs FromB frame t = atA (handled (t .a) frame) t
-lineAs Other frame t = passedBy t
-
-abbrev pub withLine : Tally → List ℕ → Tally
-withLine t l = lineAs (formOf l) (frameOf l) t
 
 -- ---- octets as they come
 

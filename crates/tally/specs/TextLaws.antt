@@ -16,7 +16,7 @@ use Rattle.octets.specs.Texts.{text}
 use Rattle.numerals.specs.Numerals.{decimal}
 use Rattle.numerals.specs.NumeralLaws.{Laid, laid-both}
 use Rattle.counters.specs.declared.Changes.{Changes}
-use Rattle.tally.specs.declared.Tally.{Tally}
+use Rattle.counting.specs.declared.Tally.{Tally}
 use Rattle.tally.specs.Steps.{row, changesText, settledText, tallyText, reportLength, reportOutput, Reports}
 
 -- ---- a row of numbers

@@ -1,105 +1,16 @@
 // A capture replayed between two ports, and counted (02, E8). Octets are fed in reads of any length; the counts are a value.
 ghost use mathlib.Core.Path.{_≡_};
-ghost use Rattle.handling.specs.Handling.{handled};
-ghost use Rattle.capture.specs.Capture.{frameOf};
 ghost use Rattle.tally.specs.Steps.{fed, finished, started, begun};
-ghost use Rattle.tally.specs.StepLaws.{Passes};
-use capture::Form;
 use capture::Held;
-use counters::Changes;
-use port::Event;
+use counting::Tally;
 use port::Port;
 
 pub mod text;
-
-// Both ports and what was counted. No count goes above 2^64 - 1: it stays there. `frames` counts up to the moment when both ends
-// are settled for the first time, which `settled` says has come.
-pub struct Tally {
-    pub a: Port,
-    pub b: Port,
-    pub from_a: u64,
-    pub from_b: u64,
-    pub others: u64,
-    pub refusals: [u64; 8],
-    pub of_a: Changes,
-    pub of_b: Changes,
-    pub settled: bool,
-    pub frames: u64,
-}
 
 // The counts of all lines that have ended, and what is held of the line that has not.
 pub struct Replay {
     pub tally: Tally,
     pub held: Held,
-}
-
-// Handles the frame of a line.
-fn handle(p: Port, line: &[u8]) -> Event
-    ensures { λ r. ⌜ r ≡ handled p (frameOf (now (line .entry))) ⌝ }
-{
-    let n = words::frame_length(line);
-    let frame = words::frame_octets(line);
-    handling::handle(p, octets::first(&frame, n))
-}
-
-// The counts behind the last line feed of a read, and its place.
-struct Passed {
-    tally: Tally,
-    at: usize,
-}
-
-// Counts the lines that end in `s`. The first of them began before `s`, and is `front` as a whole. The ports stay where they are:
-// of a line only the port at hand moves.
-fn pass_lines<'a>(start: Tally, front: &'a [u8], s: &'a [u8]) -> Passed
-    ensures { λ r. ⌜ Passes start (now (front .entry)) (now (s .entry)) r ⌝ }
-{
-    let mut t = start;
-    let mut at: usize = 0;
-    while at < s.len() {
-        let rest = octets::from(s, at);
-        let n = capture::line_length(rest);
-        if rest.len() <= n {
-            return Passed { tally: t, at: at };
-        }
-        let line = capture::chosen(at == 0, front, octets::first(rest, n));
-        at = at + n + 1;
-        let form = capture::form_of(line);
-        match form {
-            Form::FromA => {
-                let e = handle(t.b, line);
-                let answer = e.answer;
-                t.from_a = numerals::more(t.from_a);
-                let row = t.refusals;
-                let at_b = counters::count_refusal(row, answer);
-                t.refusals = at_b;
-                t.of_b = counters::count_reasons(t.of_b, t.b, e.port);
-                let port = e.port;
-                t.b = port;
-                t.frames = counters::count_further(t.settled, t.frames);
-                t.settled = counters::at_rest(t.settled, t.a, t.b);
-                continue;
-            }
-            Form::FromB => {
-                let e = handle(t.a, line);
-                let answer = e.answer;
-                t.from_b = numerals::more(t.from_b);
-                let row = t.refusals;
-                let at_a = counters::count_refusal(row, answer);
-                t.refusals = at_a;
-                t.of_a = counters::count_reasons(t.of_a, t.a, e.port);
-                let port = e.port;
-                t.a = port;
-                t.frames = counters::count_further(t.settled, t.frames);
-                t.settled = counters::at_rest(t.settled, t.a, t.b);
-                continue;
-            }
-            Form::Other => {
-                t.others = numerals::more(t.others);
-                continue;
-            }
-        }
-    }
-    Passed { tally: t, at: at }
 }
 
 fn begin(a: Port, b: Port) -> Tally
@@ -148,7 +59,7 @@ pub fn feed(r: Replay, s: &[u8]) -> Replay
             held: front,
         };
     }
-    let passed = pass_lines(r.tally, octets::first(&front.octets, front.n), s);
+    let passed = counting::pass_lines(r.tally, octets::first(&front.octets, front.n), s);
     let tally = passed.tally;
     let held = capture::hold(capture::nothing(), octets::from(s, passed.at));
     Replay {

@@ -6,8 +6,8 @@ ghost use lib.ListN.{length};
 ghost use Rattle.numerals.specs.NumeralLaws.{Laid};
 ghost use Rattle.tally.specs.Steps.{row, changesText, settledText, Reports};
 ghost use Rattle.tally.specs.TextLaws.{behind};
-use crate::Tally;
 use counters::Changes;
+use counting::Tally;
 
 const SPACE: u8 = 32;
 

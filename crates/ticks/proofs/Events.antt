@@ -27,7 +27,8 @@ use Rattle.port.specs.Parts.{featureOf, some, withControl, release, running}
 use Rattle.sending.specs.Sending.{withSeq, unacknowledged, raisesSeqNo, sent, step5, completed, freshPort}
 use Rattle.events.specs.PortEvents.{event, unchanged, refused}
 use Rattle.changes.specs.Changes.{withFeature, withSetting, settingChanged, setTo, changedFeature, changedApplications, changedSetting}
-use Rattle.handling.specs.Handling.{Message, met, exchanged, once, withBroken}
+use Rattle.admission.specs.Admission.{Message, met, withBroken}
+use Rattle.handling.specs.Handling.{exchanged, once}
 use Rattle.invariants.proofs.Tests.{or-cases}
 use Rattle.invariants.proofs.Fresh.{Alike, sent-alike, runs-alike, fresh-setting}
 

@@ -23,7 +23,8 @@ use Rattle.port.specs.Writing.{releasedTlv, frame}
 use Rattle.port.specs.Sound.{SoundPort, InStep}
 use Rattle.changes.specs.Changes.{changedSetting}
 use Rattle.sending.specs.Sending.{completed}
-use Rattle.handling.specs.Handling.{Message, message, hasOf, exchanged, once, steps1to4, frameEvent, accepted, breaks, withBroken, rejected, given, handled}
+use Rattle.admission.specs.Admission.{Message, message, hasOf, breaks, withBroken, rejected}
+use Rattle.handling.specs.Handling.{exchanged, once, steps1to4, frameEvent, accepted, given, handled}
 use Rattle.invariants.proofs.Soundness.{once-kept, completed-sound}
 use Rattle.invariants.proofs.Standing.{Standing, rejected-sound, rejected-in-step, setting-stands}
 use Rattle.invariants.proofs.Waiting.{steps-in-step}

@@ -32,8 +32,9 @@ use Rattle.creation.specs.Creation as creation
 use Rattle.sending.specs.Sending as sending
 use Rattle.flags.specs.Flags as flags
 use Rattle.changes.specs.Changes as changes
+use Rattle.admission.specs.Admission as admission
 use Rattle.handling.specs.Handling as handling
-use Rattle.handling.specs.Handling.{hasOf}
+use Rattle.admission.specs.Admission.{hasOf}
 use Rattle.rounds.specs.Rounds as ends
 use Rattle.rounds.specs.Rounds.{End, left, right, other, Ends, writes, handles, Accepts}
 use Rattle.exchange.specs.Demand3.{Begun}
@@ -199,11 +200,11 @@ module _ (this : Ends → Ends) where
           (not-handled left Flow t _ _ _ (λ e. absurd (false≢true cc)) (none-handled left Flow t _))
 
 restarted-computed : Computed restarted
-unfolding first second restarted start created desired versions switches on lent layout.headAt contents.foundAgain contents.counts contents.noted reading.onward reading.walkFrom reading.walked layout.isDcbx reading.judgedControl reading.readFrame revisions.hasApplications revising.skipping revising.readFor parameters.featureNumber parameters.goodHalves parameters.sum parameters.validGroups parameters.validFlow parameters.sameName parameters.allFrom parameters.newName parameters.validApplications parameters.valid parameters.ones parameters.localValues parameters.validLocal parameters.clash parameters.clearOf parameters.compatible parameters.isOurs parameters.oursOf parameters.ours parameters.fewAndNew parameters.stored parameters.content parameters.sameParameters rules.judged rules.outcome machine.freshAt machine.releaseTlv turn.acknowledged turn.received machine.differing machine.marked machine.sameSetting machine.judgedAgain machine.reset writing.subTlvs writing.frame writing.toWrite writing.asks writing.written writing.output sending.unacknowledged sending.raisesSeqNo sending.sent creation.started sending.freshPort flags.restarts flags.flagSet flags.flagged changes.settingChanged changes.setTo changes.changedFeature changes.changedApplications changes.changedSetting handling.exchanged handling.once handling.steps1to4 handling.breaks handling.rejected handling.frameEvent handling.accepted handling.given handling.handled ends.other ends.afterWrite ends.delivered ends.exec happened after same
+unfolding first second restarted start created desired versions switches on lent layout.headAt contents.foundAgain contents.counts contents.noted reading.onward reading.walkFrom reading.walked layout.isDcbx reading.judgedControl reading.readFrame revisions.hasApplications revising.skipping revising.readFor parameters.featureNumber parameters.goodHalves parameters.sum parameters.validGroups parameters.validFlow parameters.sameName parameters.allFrom parameters.newName parameters.validApplications parameters.valid parameters.ones parameters.localValues parameters.validLocal parameters.clash parameters.clearOf parameters.compatible parameters.isOurs parameters.oursOf parameters.ours parameters.fewAndNew parameters.stored parameters.content parameters.sameParameters rules.judged rules.outcome machine.freshAt machine.releaseTlv turn.acknowledged turn.received machine.differing machine.marked machine.sameSetting machine.judgedAgain machine.reset writing.subTlvs writing.frame writing.toWrite writing.asks writing.written writing.output sending.unacknowledged sending.raisesSeqNo sending.sent creation.started sending.freshPort flags.restarts flags.flagSet flags.flagged changes.settingChanged changes.setTo changes.changedFeature changes.changedApplications changes.changedSetting handling.exchanged handling.once handling.steps1to4 admission.breaks admission.rejected handling.frameEvent handling.accepted handling.given handling.handled ends.other ends.afterWrite ends.delivered ends.exec happened after same
 restarted-computed = record { accepts = (26, refl); advertised = refl; syncd = refl; tlv = refl }
 
 gone-computed : Computed gone
-unfolding first second gone start created desired versions switches on lent layout.headAt contents.foundAgain contents.counts contents.noted reading.onward reading.walkFrom reading.walked layout.isDcbx reading.judgedControl reading.readFrame revisions.hasApplications revising.skipping revising.readFor parameters.featureNumber parameters.goodHalves parameters.sum parameters.validGroups parameters.validFlow parameters.sameName parameters.allFrom parameters.newName parameters.validApplications parameters.valid parameters.ones parameters.localValues parameters.validLocal parameters.clash parameters.clearOf parameters.compatible parameters.isOurs parameters.oursOf parameters.ours parameters.fewAndNew parameters.stored parameters.content parameters.sameParameters rules.judged rules.outcome machine.freshAt machine.releaseTlv turn.acknowledged turn.received machine.differing machine.marked machine.sameSetting machine.judgedAgain machine.reset writing.subTlvs writing.frame writing.toWrite writing.asks writing.written writing.output sending.unacknowledged sending.raisesSeqNo sending.sent creation.started sending.freshPort flags.peerGone changes.settingChanged changes.setTo changes.changedFeature changes.changedApplications changes.changedSetting handling.exchanged handling.once handling.steps1to4 handling.breaks handling.rejected handling.frameEvent handling.accepted handling.given handling.handled ends.other ends.afterWrite ends.delivered ends.exec happened after same
+unfolding first second gone start created desired versions switches on lent layout.headAt contents.foundAgain contents.counts contents.noted reading.onward reading.walkFrom reading.walked layout.isDcbx reading.judgedControl reading.readFrame revisions.hasApplications revising.skipping revising.readFor parameters.featureNumber parameters.goodHalves parameters.sum parameters.validGroups parameters.validFlow parameters.sameName parameters.allFrom parameters.newName parameters.validApplications parameters.valid parameters.ones parameters.localValues parameters.validLocal parameters.clash parameters.clearOf parameters.compatible parameters.isOurs parameters.oursOf parameters.ours parameters.fewAndNew parameters.stored parameters.content parameters.sameParameters rules.judged rules.outcome machine.freshAt machine.releaseTlv turn.acknowledged turn.received machine.differing machine.marked machine.sameSetting machine.judgedAgain machine.reset writing.subTlvs writing.frame writing.toWrite writing.asks writing.written writing.output sending.unacknowledged sending.raisesSeqNo sending.sent creation.started sending.freshPort flags.peerGone changes.settingChanged changes.setTo changes.changedFeature changes.changedApplications changes.changedSetting handling.exchanged handling.once handling.steps1to4 admission.breaks admission.rejected handling.frameEvent handling.accepted handling.given handling.handled ends.other ends.afterWrite ends.delivered ends.exec happened after same
 gone-computed = record { accepts = (26, refl); advertised = refl; syncd = refl; tlv = refl }
 
 pub restart-breaks : Breaks restarted

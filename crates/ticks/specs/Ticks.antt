@@ -19,7 +19,7 @@ use Rattle.machine.specs.State.{subTlv}
 use Rattle.port.specs.declared.Port.{Port}
 use Rattle.port.specs.Parts.{featureOf, running}
 use Rattle.changes.specs.Changes.{changedSetting}
-use Rattle.handling.specs.Handling.{hasOf, message}
+use Rattle.admission.specs.Admission.{hasOf, message}
 use Rattle.rounds.specs.Rounds.{End, left, right, other, Ends, Call, handles, exec, Answers, Round, rounds}
 use Rattle.rounds.specs.Rounds as ports
 

@@ -1,6 +1,8 @@
 // The steps of a script.
 use feature::State;
 use feature::Switches;
+use logging::Taken;
+use logging::Took;
 use notices::Log;
 use port::Answer;
 use port::Control;
@@ -13,8 +15,6 @@ use port::Versions;
 use port::Written;
 use recorder::Change;
 use recorder::Recorder;
-use recorder::Taken;
-use recorder::Took;
 use repeating::Repetition;
 use tlv::Refusal;
 use tlv::Revision;
@@ -279,7 +279,7 @@ fn given_event(n: u8, l: Log, e: Event) -> Given {
     Given {
         told: answered(answer, notices),
         port: port,
-        log: recorder::keep(l, n, notices),
+        log: logging::keep(l, n, notices),
     }
 }
 
@@ -352,7 +352,7 @@ fn event(n: u8, p: Port, l: Log, kind: u8, body: &[u8]) -> Given {
         return given_event(n, l, happen(n, p, kind, body));
     }
     if kind == 6 {
-        return given_taken(p, recorder::take(n, l));
+        return given_taken(p, logging::take(n, l));
     }
     given_set(n, p, l, kind, body)
 }

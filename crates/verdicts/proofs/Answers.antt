@@ -27,7 +27,8 @@ use Rattle.events.specs.PortEvents.{event, unchanged, refused}
 use Rattle.flags.specs.Flags.{flagNotice, flagSet, flagged, peerGone}
 use Rattle.sending.specs.Sending.{freshPort}
 use Rattle.changes.specs.Changes.{settingChanged, setTo, changedFeature, changedApplications, changedSetting}
-use Rattle.handling.specs.Handling.{frameEvent, breaks, withBroken, accepted, rejected, given, handled}
+use Rattle.admission.specs.Admission.{breaks, withBroken, rejected}
+use Rattle.handling.specs.Handling.{frameEvent, accepted, given, handled}
 use Rattle.recorder.specs.declared.Change.{Change}
 use Rattle.recorder.specs.declared.Change.the-variants as change
 use Rattle.recorder.specs.Recorder.{happens}

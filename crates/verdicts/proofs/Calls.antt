@@ -16,16 +16,18 @@ use Rattle.feature.specs.declared.Switches.{Switches}
 use Rattle.port.specs.declared.Flag.{Flag}
 use Rattle.port.specs.declared.Flag.the-variants as flags
 use Rattle.recorder.specs.declared.Change.the-variants as change
-use Rattle.fields.specs.declared.Form.{Form}
-use Rattle.fields.specs.declared.Form.the-variants as Form
+use Rattle.grammar.specs.declared.Form.{Form}
+use Rattle.grammar.specs.declared.Form.the-variants as Form
 use Rattle.words.specs.declared.Number.the-variants.{Is}
-use Rattle.script.specs.declared.Kind.{Kind}
-use Rattle.script.specs.declared.Kind.the-variants as Kind
+use Rattle.lines.specs.declared.Kind.{Kind}
+use Rattle.lines.specs.declared.Kind.the-variants as Kind
 use Rattle.words.specs.Text.{isDigit, nibble, hexDigits, isOctets, pairAt, listed, octetsOf, ended, wordsFrom, words, first, others, decimalDigits, decimalFrom, isNumber, number, filled}
 use Rattle.words.specs.Text as spelling
-use Rattle.fields.specs.Forms.{nameText, said, fieldNumber, switches, fields, due, mayEnd, onward, valuesFrom, valuesOf}
-use Rattle.script.specs.Lines.{lineOf, returned, settingKind, settingWith, plain, alone, flagBit, flag, formOf, numbered, changeOf, eventOf, keyword, isFrame, eventLine}
-use Rattle.script.specs.Lines as script
+use Rattle.grammar.specs.Grammar.{switches, fields, due, mayEnd}
+use Rattle.fields.specs.Fields.{nameText, said, fieldNumber, onward, valuesFrom, valuesOf}
+use Rattle.lines.specs.Lines.{lineOf, returned, settingKind, settingWith, plain, alone}
+use Rattle.script.specs.Events.{flagBit, flag, formOf, numbered, changeOf, eventOf, keyword, isFrame, eventLine}
+use Rattle.script.specs.Events as script
 use Rattle.capture.specs.Capture as capture
 use Rattle.numerals.specs.Numerals.{digitsOf, decimal}
 use Rattle.judgement.specs.Entries.{Sent, Given, Changed, flagOf, toldBy, entryBy, entryAs, entryOf}

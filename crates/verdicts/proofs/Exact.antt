@@ -18,7 +18,8 @@ use Rattle.port.specs.Replies.{bit}
 use Rattle.port.specs.Writing.{frame, toWrite}
 use Rattle.comparison.specs.Comparison.{isDue, differing, placeIn}
 use Rattle.judgement.specs.Entries.{Entry, Sent, Given, Changed, Passed, entryOf, octetsIn, portAfter, isSent}
-use Rattle.conformance.specs.Conformance.{portBehind, other, Verdict, Accepted, Rejected, verdictAt, verdictFrom, verdict}
+use Rattle.ruling.specs.Ruling.{Verdict, Accepted, Rejected}
+use Rattle.conformance.specs.Conformance.{portBehind, other, verdictAt, verdictFrom, verdict}
 use Rattle.verdicts.specs.Verdicts.{Due, AllDue, sentIn, FirstDifference, FirstOther, Exactly}
 
 -- ---- a frame is due exactly if the test says so

@@ -30,7 +30,8 @@ use Rattle.calls.specs.Calls.{Operation, eventOf}
 use Rattle.calls.specs.Calls as call
 use Rattle.comparison.specs.Comparison.{isDue}
 use Rattle.judgement.specs.Entries.{Entry, Sent, Given, Changed, Passed, entryOf, portAfter, isSent}
-use Rattle.conformance.specs.Conformance.{other, Accepted, verdictAt, verdictFrom}
+use Rattle.ruling.specs.Ruling.{Accepted}
+use Rattle.conformance.specs.Conformance.{other, verdictAt, verdictFrom}
 use Rattle.verdicts.specs.Transcripts.{sentLine, givenLine, spaced, flagWord, bitWord, settingWords, writtenLines, linesOf, Act, Call, Line, portPast, linesAt, captureOf, hasWritten, wrote, writesIn, OctetsWithin, Sayable, AllSayable, SettingsInRange, Own}
 use Rattle.verdicts.proofs.Exact.{is-same}
 use Rattle.verdicts.proofs.Calls.{sent-line, given-line, gone-line, flag-line, setting-line}

@@ -45,7 +45,8 @@ use Rattle.flags.specs.Flags.{restarts, flagNotice, flagSet, flagged, peerGone}
 use Rattle.changes.specs.Changes.{withFeature, withSetting, settingChanged, setTo, changedFeature, changedApplications, changedSetting}
 use Rattle.creation.specs.Creation.{blankParameters, blankPort, started, createdPort, settingsValid, created, createdWith, versionsFor, switchesFor, parametersFor}
 use Rattle.creation.specs.Creation as creation
-use Rattle.handling.specs.Handling.{Message, message, twice, met, exchanged, once, steps1to4, frameEvent, accepted, rejected, given, handled}
+use Rattle.admission.specs.Admission.{Message, message, met, rejected}
+use Rattle.handling.specs.Handling.{twice, exchanged, once, steps1to4, frameEvent, accepted, given, handled}
 use Rattle.invariants.proofs.Soundness.{Octets}
 use Rattle.invariants.proofs.Fresh.{fresh-setting}
 use Rattle.invariants.proofs.Standing.{Standing, handled-stands, flagged-stands, gone-stands, setting-stands, created-stands, blank-stands}
@@ -53,20 +54,21 @@ use Rattle.recorder.specs.declared.Change.{Change}
 use Rattle.recorder.specs.declared.Change.the-variants as change
 use Rattle.recorder.specs.Recorder.{happens}
 use Rattle.calls.proofs.Reachable.{versions-small}
-use Rattle.fields.specs.declared.Form.{Form}
-use Rattle.fields.specs.declared.Form.the-variants as Form
+use Rattle.grammar.specs.declared.Form.{Form}
+use Rattle.grammar.specs.declared.Form.the-variants as Form
 use Rattle.fields.specs.declared.Values.{Values}
 use Rattle.words.specs.declared.Number.{Number}
 use Rattle.words.specs.declared.Number.the-variants.{Is, Not}
-use Rattle.script.specs.declared.Flag as script
+use Rattle.lines.specs.declared.Flag as said
 use Rattle.script.specs.declared.Keyword.{Keyword}
 use Rattle.script.specs.declared.Keyword.the-variants as Keyword
-use Rattle.script.specs.declared.Kind.{Kind}
-use Rattle.script.specs.declared.Line as lines
+use Rattle.lines.specs.declared.Kind.{Kind}
+use Rattle.lines.specs.declared.Line as lines
 use Rattle.words.specs.Text.{pairAt, listed, octetsOf, words, first, others, number, filled}
-use Rattle.fields.specs.declared.Field.the-variants.{Bit}
-use Rattle.fields.specs.Forms.{fieldNumber, entryOctet, groupsOctet, parameterCount, parameterAt, parametersOf, valuesOf}
-use Rattle.script.specs.Lines.{lineOf, bare, returned, settingKind, settingWith, feature, plain, alone, flagBit, flag, writeRoom, write, formOf, numbered, changeOf, eventOf, keyword, isFrame, eventLine}
+use Rattle.grammar.specs.declared.Field.the-variants.{Bit}
+use Rattle.fields.specs.Fields.{fieldNumber, entryOctet, groupsOctet, parameterCount, parameterAt, parametersOf, valuesOf}
+use Rattle.lines.specs.Lines.{lineOf, bare, returned, settingKind, settingWith, feature, plain, alone}
+use Rattle.script.specs.Events.{flagBit, flag, writeRoom, write, formOf, numbered, changeOf, eventOf, keyword, isFrame, eventLine}
 use Rattle.capture.specs.declared.Form as forms
 use Rattle.capture.specs.declared.Form.the-variants.{FromA, FromB, Other}
 use Rattle.capture.specs.Capture as capture
@@ -206,7 +208,7 @@ change-held Form.Flow ws = feature-held Form.Flow 3 3 (others ws)
 change-held Form.Applications ws = feature-held Form.Applications 3 4 (others ws)
 change-held Form.Plain ws = numbered-held (number 255 (first ws)) (others ws)
 
-flag-held : (x : script.Flag) (b : Number) (ws : List (List ℕ)) → Held (flagBit x b ws)
+flag-held : (x : said.Flag) (b : Number) (ws : List (List ℕ)) → Held (flagBit x b ws)
 unfolding flagBit
 flag-held x Not ws = bare-held _
 flag-held x (Is n) ws = alone-held _ 3 ws

@@ -17,11 +17,12 @@ use Rattle.judgement.specs.declared.Judged.{Judged}
 use Rattle.comparison.specs.Comparison.{placeIn}
 use Rattle.judgement.specs.Entries.{Sent, entryOf, octetsIn, portAfter}
 use Rattle.judgement.specs.Courses.{begun, courseOn}
-use Rattle.conformance.specs.Conformance.{Verdict, verdict, portBehind, other, courseFrom}
+use Rattle.ruling.specs.Ruling.{Verdict, verdictText}
+use Rattle.conformance.specs.Conformance.{verdict, portBehind, other, courseFrom}
 use Rattle.judgement.specs.Steps.{rejectedWith, withLine, unjudged}
 use Rattle.conformance.specs.Steps.{judgingOf, fed, finished, started, verdictOf}
 use Rattle.judgement.specs.StepLaws.{with-clipped}
-use Rattle.conformance.specs.Text.{verdictText, saidOutput}
+use Rattle.conformance.specs.Text.{saidOutput}
 use Rattle.verdicts.specs.Verdicts.{Due, AllDue, FirstOther, cappedVerdict, judgedOn, Judges}
 use Rattle.verdicts.proofs.Walk.{stateOf, walked, walk, walked-port, walked-course, walked-verdict}
 use Rattle.verdicts.proofs.Exact.{first-due, later, not-due, exactly}

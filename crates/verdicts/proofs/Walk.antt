@@ -19,7 +19,8 @@ use Rattle.judgement.specs.declared.Judged.{Judged}
 use Rattle.comparison.specs.Comparison.{isDue, placeIn}
 use Rattle.judgement.specs.Entries.{Entry, Sent, Given, Changed, Passed, entryOf, octetsIn, portAfter, isSent}
 use Rattle.judgement.specs.Courses.{sinceBy, takenBy, sentOn, givenOn, changedOn, passedOn, courseOn, begun}
-use Rattle.conformance.specs.Conformance.{portBehind, other, Verdict, Accepted, Rejected, verdictAt, verdictFrom, courseFrom, beforeOther}
+use Rattle.ruling.specs.Ruling.{Verdict, Accepted, Rejected}
+use Rattle.conformance.specs.Conformance.{portBehind, other, verdictAt, verdictFrom, courseFrom, beforeOther}
 use Rattle.judgement.specs.Steps.{rejectedWith, sentAt, withEntry, withLine}
 use Rattle.conformance.specs.Steps.{verdictOf}
 use Rattle.verdicts.specs.Verdicts.{cappedCourse, cappedVerdict}

@@ -23,7 +23,8 @@ use Rattle.calls.specs.Calls.{Operation, eventOf}
 use Rattle.calls.specs.Calls as call
 use Rattle.numerals.specs.Numerals.{decimal}
 use Rattle.judgement.specs.Entries.{entryOf, isSent, portAfter}
-use Rattle.conformance.specs.Conformance.{Accepted, verdict}
+use Rattle.ruling.specs.Ruling.{Accepted}
+use Rattle.conformance.specs.Conformance.{verdict}
 
 -- octets in a capture: two lower-case hex digits for each
 abbrev pub hexDigit : ℕ → ℕ

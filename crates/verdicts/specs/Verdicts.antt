@@ -30,8 +30,9 @@ use Rattle.judgement.specs.declared.Course.{Course}
 use Rattle.judgement.specs.declared.Judged.{Judged}
 use Rattle.judgement.specs.Entries.{Sent, entryOf, isSent}
 use Rattle.judgement.specs.Courses.{begun}
-use Rattle.conformance.specs.Conformance.{portBehind, Verdict, Accepted, Rejected, verdict, beforeOther, courseFrom}
-use Rattle.conformance.specs.Text.{verdictText, saidOutput}
+use Rattle.ruling.specs.Ruling.{Verdict, Accepted, Rejected, verdictText}
+use Rattle.conformance.specs.Conformance.{portBehind, verdict, beforeOther, courseFrom}
+use Rattle.conformance.specs.Text.{saidOutput}
 use Rattle.conformance.specs.Steps.{started, fed, finished, verdictOf}
 use Rattle.verdicts.specs.Transcripts.{SettingsInRange, Act, AllSayable, Own}
 

@@ -7,10 +7,20 @@ ghost use Rattle.words.specs.StepsLaws.{run, trimmed, firstWord, rest, N
 
 const SPACE: u8 = 32;
 
+// A longer line cannot be read.
+pub const LONGEST: usize = 1100;
+
 // A word that is to be a number.
 pub enum Number {
     Is(usize),
     Not,
+}
+
+// The low octet of a number.
+pub fn low(n: usize) -> u8
+    ensures { λ r. ⌜ r ≡ n % 256 ⌝ }
+{
+    (n % 256) as u8
 }
 
 // How many octets in front are spaces, or are none.

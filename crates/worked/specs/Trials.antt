@@ -32,7 +32,7 @@ use Rattle.port.specs.declared.Port.{Port}
 use Rattle.port.specs.Parts.{featureOf, three, withControl}
 use Rattle.port.specs.Replies.{bit}
 use Rattle.port.specs.Settled.{settled}
-use Rattle.handling.specs.Handling as handling
+use Rattle.admission.specs.Admission as admission
 use Rattle.recorder.specs.declared.Recorder.{Recorder}
 use Rattle.recorder.specs.Recorder.{portAt, blank}
 use Rattle.calls.specs.Calls.{Operation, create, frame, flag, setting, write, take, Call, raised, after, afterAll, lentAfter, replyOf}
@@ -78,35 +78,35 @@ frameOf subTlvs = layout.frameHead (length subTlvs) ++ subTlvs
 
 -- ---- reading: a frame's refusal number and its place, or what is asked of the message that it is
 
-unfoldable pub messageIn : (handling.Message → List ℕ) → List ℕ → Reading → List ℕ
+unfoldable pub messageIn : (admission.Message → List ℕ) → List ℕ → Reading → List ℕ
 messageIn ask o (read.Refused why place) = refusalNumber why ∷ place ∷ []
-messageIn ask o (read.Accepted c) = ask (handling.message o c)
+messageIn ask o (read.Accepted c) = ask (admission.message o c)
 
-unfoldable pub reads : (handling.Message → List ℕ) → List ℕ → List ℕ
+unfoldable pub reads : (admission.Message → List ℕ) → List ℕ → List ℕ
 reads ask o = messageIn ask o (reading.readFrame o)
 
-unfoldable pub sequence : handling.Message → List ℕ
+unfoldable pub sequence : admission.Message → List ℕ
 sequence m = m .seq ∷ m .ack ∷ []
 
-unfoldable pub parametersIn : handling.Message → Feature → List ℕ
+unfoldable pub parametersIn : admission.Message → Feature → List ℕ
 parametersIn m f = rules.parametersOf (m .has f .value)
 
-unfoldable pub flowIn : handling.Message → List ℕ
+unfoldable pub flowIn : admission.Message → List ℕ
 flowIn m = parameters.mask (parametersIn m Flow) ∷ parameters.flowNumber (parametersIn m Flow) ∷ []
 
 -- how many entries; id, selector and map of the first
-unfoldable pub entriesIn : handling.Message → List ℕ
+unfoldable pub entriesIn : admission.Message → List ℕ
 entriesIn m =
     let a : List ℕ = parametersIn m Applications in
     parameters.entryCount a ∷ parameters.idOf a 0 ∷ parameters.selectorOf a 0 ∷ parameters.mapOf a 0 ∷ []
 
-unfoldable pub groupsIn : handling.Message → List ℕ
+unfoldable pub groupsIn : admission.Message → List ℕ
 groupsIn m = map (parameters.groupOf (parametersIn m Groups)) (0 ∷ 1 ∷ 2 ∷ 3 ∷ 4 ∷ 5 ∷ 6 ∷ 7 ∷ [])
 
-unfoldable pub percentagesIn : handling.Message → List ℕ
+unfoldable pub percentagesIn : admission.Message → List ℕ
 percentagesIn m = parameters.percentages (parametersIn m Groups)
 
-unfoldable pub classesIn : handling.Message → List ℕ
+unfoldable pub classesIn : admission.Message → List ℕ
 classesIn m = parameters.groupsNumber (parametersIn m Groups) ∷ []
 
 -- ---- settings

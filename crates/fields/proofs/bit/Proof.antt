@@ -1,5 +1,5 @@
 -- `bit` meets its contract. Assumes nothing.
-use Rattle.fields.specs.FormsLaws.{bit-long, bit-read}
+use Rattle.fields.specs.FieldsLaws.{bit-long, bit-read}
 use borrow.Author.Needs.{needs}
 use Rattle.fields.proofs.bit.Statement.{statement}
 use Rattle.fields.proofs.bit.Tie as tie

@@ -1,6 +1,6 @@
 -- `entries_length` meets its contract. Assumes nothing.
-use Rattle.fields.specs.FormsLaws.{entries-few}
-use Rattle.fields.specs.Forms.{parameterCount}
+use Rattle.fields.specs.FieldsLaws.{entries-few}
+use Rattle.fields.specs.Fields.{parameterCount}
 use native.Mathlib.Omega.{arith}
 use mathlib.Core.Path.{refl}
 use borrow.Author.Needs.{needs}

@@ -1,5 +1,5 @@
 -- `entry_octet` meets its contract. Assumes nothing.
-use Rattle.fields.specs.FormsLaws.{entry-high, entry-low, entry-selector, entry-1b, entry-21, entry-map}
+use Rattle.fields.specs.FieldsLaws.{entry-high, entry-low, entry-selector, entry-1b, entry-21, entry-map}
 use borrow.Author.Needs.{needs}
 use Rattle.fields.proofs.entry_octet.Statement.{statement}
 use Rattle.fields.proofs.entry_octet.Tie as tie

@@ -1,5 +1,5 @@
 -- `groups_octet` meets its contract. Assumes nothing.
-use Rattle.fields.specs.FormsLaws.{groups-halves, groups-percentage, groups-classes}
+use Rattle.fields.specs.FieldsLaws.{groups-halves, groups-percentage, groups-classes}
 use borrow.Author.Needs.{needs}
 use Rattle.fields.proofs.groups_octet.Statement.{statement}
 use Rattle.fields.proofs.groups_octet.Tie as tie

@@ -1,5 +1,5 @@
 -- `hex2` meets its contract. Assumes nothing.
-use Rattle.fields.specs.FormsLaws.{hex2-long, hex2-other, hex2-read}
+use Rattle.fields.specs.FieldsLaws.{hex2-long, hex2-other, hex2-read}
 use borrow.Author.Needs.{needs}
 use Rattle.fields.proofs.hex2.Statement.{statement}
 use Rattle.fields.proofs.hex2.Tie as tie

@@ -1,5 +1,5 @@
 -- `hex4` meets its contract. Assumes nothing.
-use Rattle.fields.specs.FormsLaws.{hex4-long, hex4-other, hex4-read}
+use Rattle.fields.specs.FieldsLaws.{hex4-long, hex4-other, hex4-read}
 use borrow.Author.Needs.{needs}
 use Rattle.fields.proofs.hex4.Statement.{statement}
 use Rattle.fields.proofs.hex4.Tie as tie

@@ -1,6 +1,6 @@
 -- `is_name` meets its contract. Assumes nothing.
-use Rattle.fields.specs.FormsLaws.{name-is}
-use Rattle.fields.specs.Forms.{nameText}
+use Rattle.fields.specs.FieldsLaws.{name-is}
+use Rattle.fields.specs.Fields.{nameText}
 use borrow.Author.Needs.{needs}
 use Rattle.fields.proofs.is_name.Statement.{statement}
 use Rattle.fields.proofs.is_name.Tie as tie

@@ -1,5 +1,5 @@
 -- `parameter_at` meets its contract. Assumes nothing.
-use Rattle.fields.specs.FormsLaws.{parameter-groups, parameter-flow, parameter-applications, parameter-plain}
+use Rattle.fields.specs.FieldsLaws.{parameter-groups, parameter-flow, parameter-applications, parameter-plain}
 use borrow.Author.Needs.{needs}
 use Rattle.fields.proofs.parameter_at.Statement.{statement}
 use Rattle.fields.proofs.parameter_at.Tie as tie

@@ -1,5 +1,5 @@
 -- `parameter_count` meets its contract. Assumes nothing.
-use Rattle.fields.specs.Forms.{parameterCount}
+use Rattle.fields.specs.Fields.{parameterCount}
 use native.Mathlib.Omega.{arith}
 use borrow.Author.Needs.{needs}
 use Rattle.fields.proofs.parameter_count.Statement.{statement}

@@ -2,7 +2,7 @@
 use Prim.Native.Nat.{_-_}
 use native.Mathlib.Omega.{arith}
 use borrow.Author.Needs.{needs}
-use Rattle.fields.specs.Forms.{parameterAt}
+use Rattle.fields.specs.Fields.{parameterAt}
 use Rattle.words.specs.TextLaws.{Listing, listing-start, listing-more, listing-end}
 use Rattle.fields.proofs.parameters.Statement.{statement}
 use Rattle.fields.proofs.parameters.Tie as tie

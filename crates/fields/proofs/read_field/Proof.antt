@@ -1,5 +1,5 @@
 -- `read_field` meets its contract. Assumes nothing.
-use Rattle.fields.specs.FormsLaws.{field-word, field-as, field-decimal, field-selector, field-parameters, field-octets, field-end}
+use Rattle.fields.specs.FieldsLaws.{field-word, field-as, field-decimal, field-selector, field-parameters, field-octets, field-end}
 use borrow.Author.Needs.{needs}
 use Rattle.fields.proofs.read_field.Statement.{statement}
 use Rattle.fields.proofs.read_field.Tie as tie

@@ -1,5 +1,5 @@
 -- `said` meets its contract. Assumes nothing.
-use Rattle.fields.specs.FormsLaws.{said-is, said-not}
+use Rattle.fields.specs.FieldsLaws.{said-is, said-not}
 use Rattle.fields.proofs.said.Statement.{statement}
 use Rattle.fields.proofs.said.Tie as tie
 

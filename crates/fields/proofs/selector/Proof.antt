@@ -1,5 +1,5 @@
 -- `selector` meets its contract. Assumes nothing.
-use Rattle.fields.specs.FormsLaws.{selector-0, selector-1, selector-2, selector-3, selector-none}
+use Rattle.fields.specs.FieldsLaws.{selector-0, selector-1, selector-2, selector-3, selector-none}
 use borrow.Author.Needs.{needs}
 use Rattle.fields.proofs.selector.Statement.{statement}
 use Rattle.fields.proofs.selector.Tie as tie

@@ -1,5 +1,6 @@
 -- `handling::accept` meets its contract. Assumes nothing.
-use Rattle.handling.specs.HandlingLaws.{accepted-inside, accepted-runs, accept-released, accept-kept}
+use Rattle.admission.specs.AdmissionLaws.{accepted-inside, accepted-runs}
+use Rattle.handling.specs.HandlingLaws.{accept-released, accept-kept}
 use borrow.Author.Needs.{needs}
 use Rattle.handling.proofs.accept.Statement.{statement}
 use Rattle.handling.proofs.accept.Tie as tie

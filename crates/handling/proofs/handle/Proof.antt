@@ -1,5 +1,6 @@
 -- `handling::handle` meets its contract. Assumes nothing.
-use Rattle.handling.specs.HandlingLaws.{handle-refused, admits-accepted}
+use Rattle.admission.specs.AdmissionLaws.{admits-accepted}
+use Rattle.handling.specs.HandlingLaws.{handle-refused}
 use borrow.Author.Needs.{needs}
 use Rattle.handling.proofs.handle.Statement.{statement}
 use Rattle.handling.proofs.handle.Tie as tie

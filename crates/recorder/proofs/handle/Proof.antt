@@ -1,5 +1,5 @@
 -- `recorder::handle` meets its contract. Assumes nothing.
-use Rattle.handling.specs.HandlingLaws.{admits-accepted}
+use Rattle.admission.specs.AdmissionLaws.{admits-accepted}
 use Rattle.recorder.specs.RecorderLaws.{changed-nowhere, changed-refused, changed-handled}
 use borrow.Author.Needs.{needs}
 use Rattle.recorder.proofs.handle.Statement.{statement}

@@ -1,5 +1,5 @@
 -- `change` meets its contract. Assumes nothing.
-use Rattle.script.specs.LinesLaws.{change-groups, change-flow, change-applications, change-plain}
+use Rattle.script.specs.EventsLaws.{change-groups, change-flow, change-applications, change-plain}
 use borrow.Author.Needs.{needs}
 use Rattle.script.proofs.change.Statement.{statement}
 use Rattle.script.proofs.change.Tie as tie

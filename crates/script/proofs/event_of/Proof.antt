@@ -1,5 +1,5 @@
 -- `event_of` meets its contract. Assumes nothing.
-use Rattle.script.specs.LinesLaws.{event-gone, event-take, event-show, event-set, event-write, event-flag, event-frame, event-other}
+use Rattle.script.specs.EventsLaws.{event-gone, event-take, event-show, event-set, event-write, event-flag, event-frame, event-other}
 use borrow.Author.Needs.{needs}
 use Rattle.script.proofs.event_of.Statement.{statement}
 use Rattle.script.proofs.event_of.Tie as tie

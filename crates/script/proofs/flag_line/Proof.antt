@@ -1,5 +1,5 @@
 -- `flag_line` meets its contract. Assumes nothing.
-use Rattle.script.specs.LinesLaws.{flag-not, flag-read}
+use Rattle.script.specs.EventsLaws.{flag-not, flag-read}
 use borrow.Author.Needs.{needs}
 use Rattle.script.proofs.flag_line.Statement.{statement}
 use Rattle.script.proofs.flag_line.Tie as tie

@@ -1,5 +1,5 @@
 -- `flag_of` meets its contract. Assumes nothing.
-use Rattle.script.specs.LinesLaws.{flag-admin, flag-receive, flag-transmit, flag-several, flag-frame, flag-other}
+use Rattle.script.specs.EventsLaws.{flag-admin, flag-receive, flag-transmit, flag-several, flag-frame, flag-other}
 use borrow.Author.Needs.{needs}
 use Rattle.script.proofs.flag_of.Statement.{statement}
 use Rattle.script.proofs.flag_of.Tie as tie

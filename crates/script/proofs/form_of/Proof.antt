@@ -1,5 +1,5 @@
 -- `form_of` meets its contract. Assumes nothing.
-use Rattle.script.specs.LinesLaws.{form-groups, form-flow, form-applications, form-other}
+use Rattle.script.specs.EventsLaws.{form-groups, form-flow, form-applications, form-other}
 use borrow.Author.Needs.{needs}
 use Rattle.script.proofs.form_of.Statement.{statement}
 use Rattle.script.proofs.form_of.Tie as tie

@@ -1,5 +1,5 @@
 -- `is_frame` meets its contract. Assumes nothing.
-use Rattle.script.specs.LinesLaws.{frame-not, frame-octets}
+use Rattle.script.specs.EventsLaws.{frame-not, frame-octets}
 use borrow.Author.Needs.{needs}
 use Rattle.script.proofs.is_frame.Statement.{statement}
 use Rattle.script.proofs.is_frame.Tie as tie

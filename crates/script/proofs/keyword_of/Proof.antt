@@ -1,5 +1,5 @@
 -- `keyword_of` meets its contract. Assumes nothing.
-use Rattle.script.specs.LinesLaws.{word-gone, word-take, word-show, word-set, word-write, word-flag}
+use Rattle.script.specs.EventsLaws.{word-gone, word-take, word-show, word-set, word-write, word-flag}
 use borrow.Author.Needs.{needs}
 use Rattle.script.proofs.keyword_of.Statement.{statement}
 use Rattle.script.proofs.keyword_of.Tie as tie

@@ -1,5 +1,5 @@
 -- `numbered` meets its contract. Assumes nothing.
-use Rattle.script.specs.LinesLaws.{numbered-not, numbered-read}
+use Rattle.script.specs.EventsLaws.{numbered-not, numbered-read}
 use borrow.Author.Needs.{needs}
 use Rattle.script.proofs.numbered.Statement.{statement}
 use Rattle.script.proofs.numbered.Tie as tie

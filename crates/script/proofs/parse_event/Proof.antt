@@ -1,5 +1,5 @@
 -- `parse_event` meets its contract. Assumes nothing.
-use Rattle.script.specs.LinesLaws.{event-long, event-returned, frame-line, event-line}
+use Rattle.script.specs.EventsLaws.{event-long, event-returned, frame-line, event-line}
 use borrow.Author.Needs.{needs}
 use Rattle.script.proofs.parse_event.Statement.{statement}
 use Rattle.script.proofs.parse_event.Tie as tie

@@ -1,5 +1,5 @@
 -- `write_line` meets its contract. Assumes nothing.
-use Rattle.script.specs.LinesLaws.{write-not, write-read}
+use Rattle.script.specs.EventsLaws.{write-not, write-read}
 use borrow.Author.Needs.{needs}
 use Rattle.script.proofs.write_line.Statement.{statement}
 use Rattle.script.proofs.write_line.Tie as tie
