@@ -3,8 +3,6 @@ use console::Lines;
 use console::arguments::Source;
 use recorder::Recorder;
 
-mod answers;
-
 // What an answer may take of the output; the longest, of `show`, is shorter.
 const ROOM: usize = 16384;
 
@@ -112,10 +110,10 @@ fn run(input: &mut [u8], output: &mut [u8], start: Recorder, first: Lines, behin
                 let log = logging::keep(held.log, w.number, e.notices);
                 held.log = log;
             }
-            at = answers::answered(output, from, w, e);
+            at = answering::answered(output, from, w, e);
             continue;
         }
-        let s = answers::event(output, from, w, held.ports[i], held.log, lines.number, said);
+        let s = answering::event(output, from, w, held.ports[i], held.log, lines.number, said);
         let port = s.port;
         let log = s.log;
         held.ports[i] = port;

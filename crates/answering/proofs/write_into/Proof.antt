@@ -1,8 +1,8 @@
 -- `write_into` is safe. Assumes nothing.
 use Rattle.octets.specs.Laws.{first-length}
 use borrow.Author.Needs.{needs}
-use Rattle.desk.proofs.answers.write_into.Statement.{statement}
-use Rattle.desk.proofs.answers.write_into.Tie as tie
+use Rattle.answering.proofs.write_into.Statement.{statement}
+use Rattle.answering.proofs.write_into.Tie as tie
 
 slice-relend-prefix-write : tie.Need-slice-relend-prefix-write
 slice-relend-prefix-write c = search needs
