@@ -87,7 +87,8 @@ fn setting_kind(number: u8, v: [usize; 58]) -> Kind
     }
 }
 
-// The words of a setting from `advertise` on, which is the word with a number.
+// The words of a setting from `advertise` on, which is the word with a number: the fifth at most, hence the `requires`, so that no
+// place wraps.
 pub fn feature(f: Form, word: usize, number: u8, s: &[u8]) -> Line
     requires { ⌜ word ≤ 4 ⌝ }
     ensures { λ r. ⌜ r ≡ feature f word number (words (now (s .entry))) ⌝ }
