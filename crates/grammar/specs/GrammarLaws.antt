@@ -6,7 +6,6 @@ use Rattle.std.proofs.Common.{◌∙◌, get_or-take, get_or-drop, get_or-append
 use Rattle.std.proofs.Math.ListN.{get_or, get_or-eq_default}
 use Rattle.std.proofs.lemmas.List.{get_or-replicate}
 use Rattle.grammar.specs.declared.Name.{Name}
-use Rattle.grammar.specs.declared.Name.TheVariants as Name
 use Rattle.grammar.specs.declared.Field.{Field}
 use Rattle.grammar.specs.declared.Field.TheVariants.{Word, Bit, Decimal, Hex2, Hex4, Selector, Parameters, Octets, End}
 use Rattle.grammar.specs.declared.Form.{Form}

@@ -1,4 +1,6 @@
 // What each word of a setting is to be, behind `max N` or behind `set` and its feature.
+#![tactic(auto)]
+
 ghost use Rattle.std.specs.Prelude.{◌≡◌, ◌<◌, get_or};
 ghost use Rattle.grammar.specs.Grammar.{switches, due, may_end};
 

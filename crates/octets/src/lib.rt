@@ -1,4 +1,6 @@
 // Octets: one at a place, widened; big-endian numbers; equality of two runs.
+#![tactic(auto)]
+
 ghost use Rattle.std.specs.Prelude.{◌≡◌, ◌<◌, take, drop};
 ghost use Rattle.octets.specs.Octets.{at, same};
 

@@ -1,5 +1,7 @@
 // The parameters of the three features: their layout, priority groups and flow control, and how they are stored and written. The rules of
 // applications and those of any feature are crates `applications` and `config`.
+#![tactic(auto)]
+
 ghost use Rattle.std.specs.Prelude.{◌≡◌};
 ghost use Rattle.parameters.specs.Parameters.{feature_number, same_parameters, stored};
 

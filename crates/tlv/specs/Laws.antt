@@ -6,7 +6,7 @@ use Rattle.std.proofs.Math.Bool.{true, false}
 use borrow.Author.Tests.{le-leb, lt-leb, leb-true, leb-false, eq-eqb, ne_eqb}
 use Rattle.std.proofs.Math.ListN.{length}
 use Rattle.octets.specs.Words.{if◌then◌else◌, ◌atmost◌, ◌is◌}
-use Rattle.octets.specs.Octets.{at, same}
+use Rattle.octets.specs.Octets.{same}
 use Rattle.tlv.specs.declared.Head.{Head}
 use Rattle.tlv.specs.declared.Head.TheVariants.{End, Past, SubTlv}
 use Rattle.tlv.specs.Layout.{fixed_octets, type_at, length_at, head_at, is_dcbx}

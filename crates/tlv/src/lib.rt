@@ -1,4 +1,6 @@
 // The DCBX TLV: its fixed octets, the heads of its sub-TLVs, and the numbers of refusals.
+#![tactic(auto)]
+
 ghost use Rattle.std.specs.Prelude.{◌≡◌, ◌+◌, ◌*◌, ◌%◌, ◌<◌, ◌≤◌, length};
 ghost use Rattle.std.proofs.lemmas.List.Edits.{sets};
 ghost use Rattle.tlv.specs.Refusals.{refusal_number};

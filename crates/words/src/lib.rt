@@ -1,4 +1,6 @@
 // Words, numbers and octets of a line.
+#![tactic(auto)]
+
 ghost use Rattle.std.specs.Prelude.{◌≡◌, ◌+◌, ◌*◌, ◌/◌, ◌%◌, ◌<◌, min, length, drop};
 ghost use Rattle.words.specs.Text.{words, first, is_digit, number, nibble, hex_digits, pair_at, octets_of, is_octets, filled};
 ghost use Rattle.words.specs.StepsLaws.{run, trimmed, first_word, rest, Nibbles};

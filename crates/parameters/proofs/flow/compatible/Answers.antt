@@ -1,0 +1,7 @@
+-- `flow::compatible` meets its contract. Assumes nothing.
+use borrow.Author.Rules.{rules}
+use Rattle.parameters.specs.FlowLaws.{flow_compatible}
+use Rattle.parameters.proofs.flow.compatible.Goals as goal
+
+pub returns : goal.returns
+returns c = search flow_compatible

@@ -1,0 +1,7 @@
+-- `parameters::writing::size` meets its contract. Assumes nothing.
+use Rattle.parameters.specs.WritingLaws.{size_of}
+use borrow.Author.Rules.{rules}
+use Rattle.parameters.proofs.writing.size.Goals as goal
+
+pub returns : goal.returns
+returns c = search size_of

@@ -1,0 +1,7 @@
+-- `behind` meets its contract. Assumes nothing.
+use Rattle.words.specs.TextLaws.{behind_found}
+use borrow.Author.Rules.{rules}
+use Rattle.words.proofs.behind.Goals as goal
+
+pub returns : goal.returns
+returns c = search behind_found

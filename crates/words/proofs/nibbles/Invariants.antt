@@ -1,0 +1,12 @@
+-- `nibbles` meets its contract: the first i values stand in the array. Assumes nothing.
+use Prim.Native.Nat.{◌-◌}
+use native.Mathlib.Omega.{arith}
+use borrow.Author.Rules.{rules}
+use Rattle.words.specs.TextLaws.{Valuing, valuing_start, valuing_more, valuing_end}
+use Rattle.words.proofs.nibbles.Given as goal
+
+abbrev pub invariant-loop-i : goal.invariant-loop-i
+invariant-loop-i l = Valuing l.w l.out l.n l.i
+
+abbrev pub decreases-loop-i : goal.decreases-loop-i
+decreases-loop-i l = l.n - l.i

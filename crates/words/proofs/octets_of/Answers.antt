@@ -1,0 +1,16 @@
+-- `octets_of` meets its contract. Assumes nothing.
+use Prim.Native.Nat.{◌-◌}
+use native.Mathlib.Omega.{arith}
+use borrow.Author.Rules.{rules}
+use Rattle.words.specs.Text.{pair_at}
+use Rattle.words.specs.TextLaws.{Listing, listing_start, listing_more, joining, octets_end}
+use Rattle.words.proofs.octets_of.Goals as goal
+
+pub loop-i-init : goal.loop-i-init
+loop-i-init c = listing_start _ _ (omega arith)
+
+pub loop-i-preserved : goal.loop-i-preserved
+loop-i-preserved c = search (listing_more, joining)
+
+pub returns : goal.returns
+returns c = search octets_end
