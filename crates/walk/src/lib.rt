@@ -8,7 +8,7 @@ use tlv::{Head, Refusal};
 
 // A walk over sub-TLVs, halted before one: its place, counted from 0 at the TLV's first octet, what it has found, and the last
 // control, so that no octet before its place is needed again (02, E6).
-#[derive(Drop)]
+#[derive(Clone, Copy)]
 pub struct Walk {
     pub at: usize,
     pub contents: Contents,
@@ -16,7 +16,7 @@ pub struct Walk {
 }
 
 // What the head at a walk's place makes of it.
-#[derive(Drop)]
+#[derive(Clone, Copy)]
 pub enum Step {
     // No sub-TLV is left.
     End,
