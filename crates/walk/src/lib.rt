@@ -1,4 +1,6 @@
 // The walk over the sub-TLVs of a frame, which may be halted before any of them (02, E6).
+#![tactic(auto)]
+
 ghost use Rattle.std.specs.Prelude.{◌≡◌, ◌+◌, ◌-◌, ◌<◌, ◌^◌, length, drop};
 ghost use Rattle.walk.specs.Halting.{begun, passed, finished};
 ghost use Rattle.walk.specs.HaltingLaws.{Came, Ahead, judged_end};
