@@ -28,8 +28,9 @@ use Rattle.reading.specs.Resuming.{Before, first, behind, Halts, begins, again, 
 use Rattle.reading.specs.Promises.{Inside, ReadPromise}
 use Rattle.tlv.specs.Laws.{head_end, head_within, dcbx_six}
 use Rattle.contents.specs.ContentsLaws.{choice}
-use Rattle.reading.specs.ReadingLaws.{walked_inside, judged_accepts}
-use Rattle.walk.specs.HaltingLaws.{Ahead, passed_end, passed_past, passed_whole}
+use Rattle.reading.proofs.ReadingLaws.{walked_inside, judged_accepts}
+use Rattle.walk.specs.HaltingLaws.{Ahead}
+use Rattle.walk.proofs.HaltingLaws.{passed_end, passed_past, passed_whole}
 
 -- ---- what was kept is what stands in the whole
 

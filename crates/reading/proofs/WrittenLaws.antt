@@ -17,9 +17,9 @@ use Rattle.tlv.specs.Layout.{type_at, length_at, head_at, is_dcbx}
 use Rattle.contents.specs.Contents.{counts, found_again, noted}
 use Rattle.contents.specs.ContentsLaws.{choice}
 use Rattle.tlv.specs.Laws.{head_end, head_whole}
-use Rattle.reading.specs.ReadingLaws.{walked_inside}
+use Rattle.reading.proofs.ReadingLaws.{walked_inside}
 use Rattle.reading.specs.Promises.{Inside}
-use Rattle.reading.specs.ValuesLaws.{Tlv, octets_of, octets_all, frame_of, Values, OneControl, values_in, no_value, no_values, counted_again, counts_value, noted_value, noted_values, Part, Parts, part_octets, parts_octets, parts_values, LaidOut}
+use Rattle.reading.proofs.ValuesLaws.{Tlv, octets_of, octets_all, frame_of, Values, OneControl, values_in, no_value, no_values, counted_again, counts_value, noted_value, noted_values, Part, Parts, part_octets, parts_octets, parts_values, LaidOut}
 
 -- a value is short enough for its length field
 abbrev pub Sized : List Tlv → Type 0

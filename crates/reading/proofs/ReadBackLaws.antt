@@ -5,8 +5,8 @@ use Rattle.contents.specs.declared.Reading.TheVariants.{Accepted}
 use Rattle.tlv.specs.Layout.{frame_head}
 use Rattle.contents.specs.Contents.{no_contents}
 use Rattle.reading.specs.Reading.{walked, read_frame}
-use Rattle.reading.specs.ValuesLaws.{Tlv, octets_all, frame_of, Values, OneControl, values_in, no_values, noted_values, Parts, parts_octets, parts_values, LaidOut}
-use Rattle.reading.specs.WrittenLaws.{Sized, Walks, walks_written, sized, frame_accepted, parts_tlvs, parts_octets_lem, parts_noted}
+use Rattle.reading.proofs.ValuesLaws.{Tlv, octets_all, frame_of, Values, OneControl, values_in, no_values, noted_values, Parts, parts_octets, parts_values, LaidOut}
+use Rattle.reading.proofs.WrittenLaws.{Sized, Walks, walks_written, sized, frame_accepted, parts_tlvs, parts_octets_lem, parts_noted}
 
 -- behind any six octets the walk finds the values of the sub-TLVs that were written, and comes to the end
 pub walked_written : (six : List ℕ) (ts : List Tlv) → length six ≡ 6 → Sized ts
