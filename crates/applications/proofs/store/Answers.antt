@@ -1,4 +1,6 @@
 -- `applications::store` meets its contract: of the entries before `place` our own are stored, and zeros stand behind them. Assumes nothing.
+use Rattle.std.specs.Prelude.{not}
+use Rattle.std.proofs.Common.{ap}
 use Prim.Native.Nat.{◌-◌}
 use borrow.Author.Rules.{rules}
 use native.Mathlib.Omega.{arith}
@@ -20,7 +22,7 @@ put-requires c = keeping_put c.loop-place.invariant c.loop-place-test.true c.if-
 
 pub loop-place-preserved : goal.loop-place-preserved
 loop-place-preserved c = keeping_more c.loop-place.invariant c.loop-place-test.true
-    c.is_ours.ensures c.if-not-is_ours.false c.if-size-ge96.false c.put.ensures
+    c.is_ours.ensures (ap not c.if-not-is_ours.false) c.if-size-ge96.false c.put.ensures
 
 pub returns : goal.returns
 returns c = search keeping_end

@@ -1,4 +1,6 @@
 -- `applications::valid` meets its contract: of the entries before i the places of our own are noted, and each of their names is new. Assumes nothing.
+use Rattle.std.specs.Prelude.{not}
+use Rattle.std.proofs.Common.{ap}
 use Prim.Native.Nat.{◌-◌}
 use borrow.Author.Rules.{rules}
 use native.Mathlib.Omega.{arith}
@@ -23,7 +25,7 @@ returns-then-not-new_name c = search sought_again
 
 pub loop-i-preserved : goal.loop-i-preserved
 loop-i-preserved c = sought_more c.loop-i.invariant c.loop-i-test.true
-    c.is_ours.ensures c.if-not-is_ours.false c.if-count-ge16.false c.new_name.ensures c.if-not-new_name.false
+    c.is_ours.ensures (ap not c.if-not-is_ours.false) c.if-count-ge16.false c.new_name.ensures (ap not c.if-not-new_name.false)
 
 pub returns : goal.returns
 returns c = search sought_end
