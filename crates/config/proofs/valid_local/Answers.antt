@@ -1,5 +1,4 @@
 -- `valid_local` meets its contract: valid, and the values that a local setting may have. Assumes nothing.
-use borrow.Author.Rules.{rules}
 use Rattle.config.specs.FeatureLaws.{local_invalid, local_groups, local_values_lem}
 use Rattle.config.proofs.valid_local.Goals as goal
 
