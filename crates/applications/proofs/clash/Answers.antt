@@ -1,5 +1,4 @@
 -- `applications::clash` meets its contract. Assumes nothing.
-use borrow.Author.Rules.{rules}
 use Rattle.applications.specs.ApplicationsLaws.{clash_none, clash_foreign, clash_with_foreign, clash_maps}
 use Rattle.applications.proofs.clash.Goals as goal
 

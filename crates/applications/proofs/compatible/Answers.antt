@@ -1,12 +1,5 @@
 -- `applications::compatible` meets its contract: the walk is left at the first clash, and no entry before i, nor before j for entry i, clashes. Assumes nothing.
-use Prim.Native.Nat.{◌-◌}
-use mathlib.Core.Path.{◌≡◌}
-use mathlib.Core.Bool.{true}
 use borrow.Author.Rules.{rules}
-use native.Mathlib.Omega.{arith}
-use Rattle.parameters.specs.Parameters.{entry_count, clear_of}
-use Rattle.applications.specs.AllLaws.{Passed, passed_start}
-use Rattle.applications.specs.StepsLaws.{no_clash}
 use Rattle.applications.specs.ApplicationsLaws.{row_more, walk_clash, walk_more, walk_end}
 use Rattle.applications.proofs.compatible.Goals as goal
 

@@ -1,5 +1,4 @@
 -- `applications::is_ours` meets its contract. Assumes nothing.
-use borrow.Author.Rules.{rules}
 use Rattle.applications.specs.OursLaws.{ours_high, ours_1b, ours_21}
 use Rattle.applications.proofs.is_ours.Goals as goal
 

@@ -1,10 +1,4 @@
 -- `applications::local_values` meets its contract: each entry before i is ours, with selector 0 or 1. Assumes nothing.
-use Prim.Native.Nat.{◌-◌}
-use borrow.Author.Rules.{rules}
-use native.Mathlib.Omega.{arith}
-use Rattle.parameters.specs.Parameters.{entry_count}
-use Rattle.applications.specs.AllLaws.{Passed, passed_start}
-use Rattle.applications.specs.StepsLaws.{local_entry}
 use Rattle.applications.specs.ApplicationsLaws.{local_foreign, selector_high, local_more, local_end}
 use Rattle.applications.proofs.local_values.Goals as goal
 

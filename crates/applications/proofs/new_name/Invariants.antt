@@ -1,10 +1,7 @@
 -- `applications::new_name` meets its contract: none of the first j noted entries has the name. Assumes nothing.
 use Prim.Native.Nat.{◌-◌}
-use borrow.Author.Rules.{rules}
-use native.Mathlib.Omega.{arith}
-use Rattle.applications.specs.AllLaws.{Passed, passed_start, passed_end}
+use Rattle.applications.specs.AllLaws.{Passed}
 use Rattle.applications.specs.StepsLaws.{other_name}
-use Rattle.applications.specs.ApplicationsLaws.{place_there, place_entry, name_again, name_more}
 use Rattle.applications.proofs.new_name.Given as goal
 
 abbrev pub invariant-loop-j : goal.invariant-loop-j

@@ -1,5 +1,4 @@
 -- `applications::same_name` meets its contract. Assumes nothing.
-use borrow.Author.Rules.{rules}
 use Rattle.applications.specs.ApplicationsLaws.{name_id, name_selector}
 use Rattle.applications.proofs.same_name.Goals as goal
 

@@ -1,11 +1,7 @@
 -- `applications::store` meets its contract: of the entries before `place` our own are stored, and zeros stand behind them. Assumes nothing.
 use Rattle.std.specs.Prelude.{not}
 use Rattle.std.proofs.Common.{ap}
-use Prim.Native.Nat.{◌-◌}
-use borrow.Author.Rules.{rules}
-use native.Mathlib.Omega.{arith}
-use Rattle.parameters.specs.Parameters.{entry_count}
-use Rattle.applications.specs.KeepingLaws.{Keeping, keeping_start, keeping_foreign, keeping_sized, keeping_put, keeping_more, keeping_full, keeping_end}
+use Rattle.applications.specs.KeepingLaws.{keeping_start, keeping_foreign, keeping_put, keeping_more, keeping_full, keeping_end}
 use Rattle.applications.proofs.store.Goals as goal
 
 pub loop-place-init : goal.loop-place-init

@@ -1,11 +1,7 @@
 -- `applications::valid` meets its contract: of the entries before i the places of our own are noted, and each of their names is new. Assumes nothing.
 use Rattle.std.specs.Prelude.{not}
 use Rattle.std.proofs.Common.{ap}
-use Prim.Native.Nat.{◌-◌}
-use borrow.Author.Rules.{rules}
-use native.Mathlib.Omega.{arith}
-use Rattle.parameters.specs.Parameters.{entry_count}
-use Rattle.applications.specs.ApplicationsLaws.{entries_ragged, Sought, sought_start, sought_places, sought_foreign, sought_many, sought_again, sought_more, sought_end}
+use Rattle.applications.specs.ApplicationsLaws.{entries_ragged, sought_start, sought_foreign, sought_many, sought_again, sought_more, sought_end}
 use Rattle.applications.proofs.valid.Goals as goal
 
 pub returns-then-p-ne0 : goal.returns-then-p-ne0

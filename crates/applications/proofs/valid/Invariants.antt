@@ -1,9 +1,7 @@
 -- `applications::valid` meets its contract: of the entries before i the places of our own are noted, and each of their names is new. Assumes nothing.
 use Prim.Native.Nat.{◌-◌}
-use borrow.Author.Rules.{rules}
-use native.Mathlib.Omega.{arith}
 use Rattle.parameters.specs.Parameters.{entry_count}
-use Rattle.applications.specs.ApplicationsLaws.{entries_ragged, Sought, sought_start, sought_places, sought_foreign, sought_many, sought_again, sought_more, sought_end}
+use Rattle.applications.specs.ApplicationsLaws.{Sought}
 use Rattle.applications.proofs.valid.Given as goal
 
 abbrev pub invariant-loop-i : goal.invariant-loop-i
