@@ -5,7 +5,7 @@ ghost use Rattle.addressing.specs.Addressing.{port_word, port_number, behind_por
 use words::Number;
 
 // The port of a line: `given` says that the line begins with one. Without one, port 1 is meant.
-#[derive(Drop)]
+#[derive(Clone, Copy)]
 pub struct PortWord {
     pub given: bool,
     pub number: u8,

@@ -36,7 +36,7 @@ pub fn part(s: &[u8], found: Found) -> &[u8]
 }
 
 // The way that the frame takes, and the control after steps 1 to 3.
-#[derive(Drop)]
+#[derive(Clone, Copy)]
 pub struct Heard {
     pub course: Course,
     pub control: Control,

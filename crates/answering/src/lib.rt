@@ -14,7 +14,7 @@ use tlv::Refusal;
 const INVALID: u8 = 9;
 
 // What an event leaves: the port at hand and the log, and the place behind its answer.
-#[derive(Drop)]
+#[derive(Clone, Copy)]
 pub struct Step {
     pub port: Port,
     pub log: Log,

@@ -16,7 +16,7 @@ const FRAME: usize = 513;
 const HELD: usize = 1101;
 
 // What a line is: a frame that A sent, a frame that B sent, or a line of any other form.
-#[derive(Drop)]
+#[derive(Clone, Copy)]
 pub enum Form {
     FromA,
     FromB,
@@ -25,7 +25,7 @@ pub enum Form {
 
 // The front of a line that has not ended: its first `n` octets, zero past them. Of a line that is too long to be read the rest
 // is not held.
-#[derive(Drop)]
+#[derive(Clone, Copy)]
 pub struct Held {
     pub n: usize,
     pub octets: [u8; 1101],

@@ -8,7 +8,7 @@ use port::Port;
 pub mod places;
 
 // A frame beside what the port writes: whether it is that, and where the two begin to differ.
-#[derive(Drop)]
+#[derive(Clone, Copy)]
 pub struct Compared {
     pub due: bool,
     pub place: usize,

@@ -9,7 +9,7 @@ const FRAME_HEAD: usize = 6;
 
 // The sub-TLV in which an octet stands, by its type, 0 for the octets before the first, and which octet of it; or it is none of
 // the frame's.
-#[derive(Drop)]
+#[derive(Clone, Copy)]
 pub enum Position {
     Inside(u8, usize),
     Behind,

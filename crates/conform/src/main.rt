@@ -6,7 +6,7 @@ use judgement::Judged;
 use settings::Settings;
 
 // What was judged at the end of the input or behind the first frame that is not due; nothing where a read has failed.
-#[derive(Drop)]
+#[derive(Clone, Copy)]
 struct Ended {
     judged: Judged,
     failed: bool,

@@ -10,7 +10,7 @@ use port::Port;
 pub mod text;
 
 // What was judged of all lines that have ended, and what is held of the line that has not.
-#[derive(Drop)]
+#[derive(Clone, Copy)]
 pub struct Judging {
     pub judged: Judged,
     pub held: Held,

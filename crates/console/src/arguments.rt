@@ -3,7 +3,7 @@ const LONGEST: usize = 4095;
 
 // Where settings come from: standard input, or a file, open at a descriptor. Of a file that cannot be opened, the length of
 // its name. In place of reading, help may be asked for, or the arguments make no sense.
-#[derive(Drop)]
+#[derive(Clone, Copy)]
 pub enum Source {
     Input,
     File(i32),

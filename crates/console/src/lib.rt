@@ -10,7 +10,7 @@ const KEPT: usize = 4096;
 // Where the reading stands: the buffer holds octets up to `end`, those before `next` are done with, and the line that was
 // found last stands from `from` to `to`. `number` counts the lines. No more is read where `open` is false: the input is at its
 // end, or a read of its descriptor `fd` has failed.
-#[derive(Drop)]
+#[derive(Clone, Copy)]
 pub struct Lines {
     pub number: u64,
     pub found: bool,

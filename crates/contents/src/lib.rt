@@ -1,4 +1,6 @@
 // What a frame has: its sub-TLVs noted by type, the control that is kept, and refusals 6 to 8.
+#![tactic(auto)]
+
 ghost use Rattle.std.specs.Prelude.{◌≡◌, ◌+◌, ◌≤◌, length};
 ghost use Rattle.contents.specs.Contents.{counts, found_again, no_contents, head_of, noted_at, no_control, control_in, kept_behind, judged};
 ghost use Rattle.contents.specs.ContentsLaws.{Room};
@@ -17,7 +19,7 @@ const APPLICATIONS: u8 = 4;
 const CONTROL_LENGTH: usize = 10;
 
 // How often a type came, 2 standing for two or more, and where the value of the last stands.
-#[derive(Drop)]
+#[derive(Clone, Copy)]
 pub struct Found {
     pub count: u8,
     pub start: usize,
@@ -25,7 +27,7 @@ pub struct Found {
 }
 
 // What a frame has of control and of the three features.
-#[derive(Drop)]
+#[derive(Clone, Copy)]
 pub struct Contents {
     pub control: Found,
     pub groups: Found,
@@ -34,7 +36,7 @@ pub struct Contents {
 }
 
 // The versions and numbers of a control of length 10, and zeros for another.
-#[derive(Drop)]
+#[derive(Clone, Copy)]
 pub struct Control {
     pub oper: u8,
     pub max: u8,
@@ -43,7 +45,7 @@ pub struct Control {
 }
 
 // What reading a frame gives: a refusal and its place, counted from 0 at the TLV's first octet (02, E2), or what the frame has.
-#[derive(Drop)]
+#[derive(Clone, Copy)]
 pub enum Reading {
     Refused(Refusal, usize),
     Accepted(Contents),

@@ -9,7 +9,7 @@ use port::{Answer, Port};
 
 // How often the reason of each feature of an end became absent, duplicate, bad, waiting, disabled, agreed, not compatible and
 // control twice.
-#[derive(Drop)]
+#[derive(Clone, Copy)]
 pub struct Changes {
     pub groups: [u64; 8],
     pub flow: [u64; 8],

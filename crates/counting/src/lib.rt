@@ -10,7 +10,7 @@ use port::{Event, Port};
 
 // Both ports and what was counted. No count goes above 2^64 - 1: it stays there. `frames` counts up to the moment when both ends
 // are settled for the first time, which `settled` says has come.
-#[derive(Drop)]
+#[derive(Clone, Copy)]
 pub struct Tally {
     pub a: Port,
     pub b: Port,
@@ -34,7 +34,7 @@ fn handle(p: Port, line: &[u8]) -> Event
 }
 
 // The counts behind the last line feed of a read, and its place.
-#[derive(Drop)]
+#[derive(Clone, Copy)]
 pub struct Passed {
     pub tally: Tally,
     pub at: usize,

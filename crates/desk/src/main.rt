@@ -12,7 +12,7 @@ fn flush(output: &[u8], at: usize) -> bool {
 }
 
 // The line that was found, and where its answer goes.
-#[derive(Drop)]
+#[derive(Clone, Copy)]
 struct Place {
     lines: Lines,
     at: usize,

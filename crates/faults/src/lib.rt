@@ -6,7 +6,7 @@ ghost use Rattle.faults.specs.Faults.{bad_priority, foreign_entry, first_entry, 
 use parameters::Feature;
 
 // What is wrong. Entries are counted from 1, priorities from 0.
-#[derive(Drop)]
+#[derive(Clone, Copy)]
 pub enum Fault {
     None,
     // How many octets there are, and are due.

@@ -8,7 +8,7 @@ ghost use Rattle.feature.specs.OutcomeLaws.{decided, flags_of, outcome_of, peer_
 use parameters::{Feature, Parameters};
 
 // Why a feature is in its state.
-#[derive(Drop)]
+#[derive(Clone, Copy)]
 pub enum Reason {
     NoPeerYet,
     NotAdvertised,
@@ -23,7 +23,7 @@ pub enum Reason {
 }
 
 // A setting's three switches, without its parameters.
-#[derive(Drop)]
+#[derive(Clone, Copy)]
 pub struct Switches {
     pub advertise: bool,
     pub enable: bool,
@@ -31,7 +31,7 @@ pub struct Switches {
 }
 
 // What an end is set to for one feature. `desired` is DesiredCfg.
-#[derive(Drop)]
+#[derive(Clone, Copy)]
 pub struct Setting {
     pub advertise: bool,
     pub enable: bool,
@@ -40,7 +40,7 @@ pub struct Setting {
 }
 
 // What is held of the peer: where `held` is false the rest is false and zero.
-#[derive(Drop)]
+#[derive(Clone, Copy)]
 pub struct Peer {
     pub held: bool,
     pub enable: bool,
@@ -50,7 +50,7 @@ pub struct Peer {
 }
 
 // What the outcome rules decide. OperCfg is the peer's configuration where the end `adopts` it, and else its own.
-#[derive(Drop)]
+#[derive(Clone, Copy)]
 pub struct Outcome {
     pub reason: Reason,
     pub oper: u8,
@@ -61,7 +61,7 @@ pub struct Outcome {
 }
 
 // An outcome but for the peer's parameters, which are long. `fault` is the peer's error flag.
-#[derive(Drop)]
+#[derive(Clone, Copy)]
 pub struct Decision {
     pub reason: Reason,
     pub oper: u8,
@@ -75,7 +75,7 @@ pub struct Decision {
 }
 
 // The flags of a sub-TLV.
-#[derive(Drop)]
+#[derive(Clone, Copy)]
 pub struct Flags {
     pub enable: bool,
     pub willing: bool,
@@ -83,7 +83,7 @@ pub struct Flags {
 }
 
 // A feature's state. `sequence` is FeatureSeqNo.
-#[derive(Drop)]
+#[derive(Clone, Copy)]
 pub struct State {
     pub max: u8,
     pub setting: Setting,
@@ -93,7 +93,7 @@ pub struct State {
 }
 
 // What a sub-TLV is written from, beside the feature's Max, which is fixed: none is written where the setting does not advertise.
-#[derive(Drop)]
+#[derive(Clone, Copy)]
 pub struct Release {
     pub setting: Setting,
     pub oper: u8,

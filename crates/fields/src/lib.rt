@@ -9,7 +9,7 @@ use words::Number;
 
 // The words of a line up to the first that is not what is due: its place, what is due there, and the numbers of those before it,
 // zero past them. `good` says that the line ends there, and may.
-#[derive(Drop)]
+#[derive(Clone, Copy)]
 pub struct Values {
     pub good: bool,
     pub place: usize,

@@ -5,7 +5,7 @@ ghost use Rattle.std.specs.Prelude.{◌≡◌, ◌<◌, get_or};
 ghost use Rattle.grammar.specs.Grammar.{switches, due, may_end};
 
 // The words of settings that stand as they are.
-#[derive(Drop)]
+#[derive(Clone, Copy)]
 pub enum Name {
     Control,
     Groups,
@@ -24,7 +24,7 @@ pub enum Name {
 
 // What a word is to be: a fixed word, a bit, a number up to a limit, two or four hex digits, or the octets of parameters. Where
 // a selector or `parameters` is due the line may also end, and nothing stands behind its end.
-#[derive(Drop)]
+#[derive(Clone, Copy)]
 pub enum Field {
     Word(Name),
     Bit,
@@ -38,7 +38,7 @@ pub enum Field {
 }
 
 // The words of a setting: those of each feature, or its parameters as octets.
-#[derive(Drop)]
+#[derive(Clone, Copy)]
 pub enum Form {
     Groups,
     Flow,

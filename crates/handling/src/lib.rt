@@ -21,7 +21,7 @@ use port::{Answer, Control, Event, Notices, Port, Raised};
 use turn::{Course, Turn};
 
 // What a frame changes in a port, but for the parameters held of the peer.
-#[derive(Drop)]
+#[derive(Clone, Copy)]
 struct Change {
     course: Course,
     wish: bool,

@@ -59,7 +59,7 @@ fn take_other(t: Judged, line: &[u8]) -> Judged
 // ---- lines as they end
 
 // What was judged behind the last line feed of a read, and its place.
-#[derive(Drop)]
+#[derive(Clone, Copy)]
 pub struct Reached {
     pub judged: Judged,
     pub at: usize,

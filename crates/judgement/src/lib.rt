@@ -14,7 +14,7 @@ use recorder::Change;
 // Lines by their kind: frames that the end sent and was given, changes, and lines that are passed over. `since` is the last line
 // behind which the port wrote otherwise than before, `taken` the last whose frame or change it took; 0 stands for its creation. No
 // number goes above 2^64 - 1: it stays there.
-#[derive(Drop)]
+#[derive(Clone, Copy)]
 pub struct Course {
     pub lines: u64,
     pub sent: u64,
@@ -27,7 +27,7 @@ pub struct Course {
 
 // The port, and what was judged. Where a frame is rejected it is kept, its `n` octets and zero past them, with the place of its
 // first difference; the port and the course are those before its line, and no line behind it is looked at.
-#[derive(Drop)]
+#[derive(Clone, Copy)]
 pub struct Judged {
     pub port: Port,
     pub course: Course,
@@ -38,7 +38,7 @@ pub struct Judged {
 }
 
 // What a line of `desk` tells the port.
-#[derive(Drop)]
+#[derive(Clone, Copy)]
 pub enum Told {
     Change(Change),
     Nothing,

@@ -7,7 +7,7 @@ use grammar::{Field, Form};
 use tlv::Revision;
 
 // The four flags of a port.
-#[derive(Drop)]
+#[derive(Clone, Copy)]
 pub enum Flag {
     Admin,
     Receive,
@@ -17,7 +17,7 @@ pub enum Flag {
 
 // What is due at a word: a field of the line's form, an event's first word, the feature behind `set`, the frame behind `B`, or the
 // name of a revision.
-#[derive(Drop)]
+#[derive(Clone, Copy)]
 pub enum Due {
     Field(Field),
     Event,
@@ -28,7 +28,7 @@ pub enum Due {
 
 // Why a line cannot be read: it is too long, it ends with a carriage return, or a word is not what is due. That is the first such
 // word, counted from 1; a word that is missing has the number behind the last.
-#[derive(Drop)]
+#[derive(Clone, Copy)]
 pub enum Unread {
     Long,
     Return,
@@ -36,7 +36,7 @@ pub enum Unread {
 }
 
 // What a line says. `number` is the highest version in a line of the settings, and the feature's number in an event.
-#[derive(Drop)]
+#[derive(Clone, Copy)]
 pub enum Kind {
     Unreadable(Unread),
     Control(u8, Revision),
@@ -55,7 +55,7 @@ pub enum Kind {
 }
 
 // A line that was read: what it says, and the `n` octets of its frame or parameters, zero past them.
-#[derive(Drop)]
+#[derive(Clone, Copy)]
 pub struct Line {
     pub kind: Kind,
     pub n: usize,

@@ -16,7 +16,7 @@ const ROUNDS: u64 = 6;
 const PORT: u8 = 1;
 
 // Two ends of a cable after so many rounds, each with a log of its own.
-#[derive(Drop)]
+#[derive(Clone, Copy)]
 struct Ends {
     a: Port,
     b: Port,
@@ -71,7 +71,7 @@ fn settle(a: Port, b: Port) -> Ends {
 
 // What came of a feature between two ends: `open` if it is exchanged and not agreed, 0 or 1; the ends that do not advertise it,
 // 0 for none, 1 for A, 2 for B, 3 for both; of such a feature whether what the ends run fits, 1 or 2, and of others 0.
-#[derive(Drop)]
+#[derive(Clone, Copy)]
 struct Told {
     open: u64,
     silent: u64,

@@ -10,7 +10,7 @@ pub mod groups;
 pub mod writing;
 
 // The three features; `feature_number` in specs/ gives the type of each one's sub-TLV.
-#[derive(Drop)]
+#[derive(Clone, Copy)]
 pub enum Feature {
     Groups,
     Flow,
@@ -18,7 +18,7 @@ pub enum Feature {
 }
 
 // A configuration: the octets of a feature's parameters, zero past `length`.
-#[derive(Drop)]
+#[derive(Clone, Copy)]
 pub struct Parameters {
     pub length: u8,
     pub octets: [u8; 96],

@@ -7,7 +7,7 @@ use tlv::{Refusal, Revision};
 pub mod writing;
 
 // The four flags of a port.
-#[derive(Drop)]
+#[derive(Clone, Copy)]
 pub enum Flag {
     Admin,
     Receive,
@@ -17,7 +17,7 @@ pub enum Flag {
 
 // The control state; `rcvd` is RcvdAckNo, `seen` says that a peer was seen, `duplicate` that duplicate control is marked, `broken`
 // that the last frame since the fresh state had a broken control (02, E1).
-#[derive(Drop)]
+#[derive(Clone, Copy)]
 pub struct Control {
     pub max: u8,
     pub oper: u8,
@@ -30,7 +30,7 @@ pub struct Control {
 }
 
 // The revision is fixed at creation (02, E11).
-#[derive(Drop)]
+#[derive(Clone, Copy)]
 pub struct Port {
     pub revision: Revision,
     pub admin: bool,
@@ -45,7 +45,7 @@ pub struct Port {
 }
 
 // What was last released of each feature, which is what frames carry (02, E5).
-#[derive(Drop)]
+#[derive(Clone, Copy)]
 pub struct Released {
     pub groups: Release,
     pub flow: Release,
@@ -53,7 +53,7 @@ pub struct Released {
 }
 
 // The revision and the highest versions, fixed at creation.
-#[derive(Drop)]
+#[derive(Clone, Copy)]
 pub struct Versions {
     pub revision: Revision,
     pub control: u8,
@@ -64,20 +64,20 @@ pub struct Versions {
 
 // What an event gives: done, with the wish to send; or refused, with the place where a frame went wrong, and 0 beside every other
 // refusal (02, E2).
-#[derive(Drop)]
+#[derive(Clone, Copy)]
 pub enum Answer {
     Done(bool),
     Refused(Refusal, usize),
 }
 
 // At most one notice of the port and one for each feature.
-#[derive(Drop)]
+#[derive(Clone, Copy)]
 pub enum Raised {
     Nothing,
     Notice(Kind),
 }
 
-#[derive(Drop)]
+#[derive(Clone, Copy)]
 pub struct Notices {
     pub port: Raised,
     pub groups: Raised,
@@ -85,7 +85,7 @@ pub struct Notices {
     pub applications: Raised,
 }
 
-#[derive(Drop)]
+#[derive(Clone, Copy)]
 pub struct Event {
     pub answer: Answer,
     pub port: Port,
@@ -93,7 +93,7 @@ pub struct Event {
 }
 
 // What a request to write gives: the number of octets written, or a refusal.
-#[derive(Drop)]
+#[derive(Clone, Copy)]
 pub enum Written {
     Octets(usize),
     Refused(Refusal),

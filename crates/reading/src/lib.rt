@@ -1,4 +1,6 @@
 // Frames read: refusals 3 to 8, for either revision; and the thin reader over sub-TLVs.
+#![tactic(auto)]
+
 ghost use Rattle.std.specs.Prelude.{◌≡◌};
 ghost use Rattle.reading.specs.Revisions.{skipping};
 ghost use Rattle.reading.specs.Promises.{ReadPromise, ReadsFor};

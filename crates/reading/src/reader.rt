@@ -5,7 +5,7 @@ ghost use Rattle.reading.specs.Walking.{New, Next, Moved};
 
 use tlv::Head;
 
-#[derive(Drop)]
+#[derive(Clone, Copy)]
 pub struct Reader<'a> {
     pub src: &'a [u8],
     pub at: usize,

@@ -13,7 +13,7 @@ use turn::Course;
 
 // What a frame does that repeats what is held of the peer: the control alone changes, and nothing is raised. Where `holds` is false
 // the rest says nothing.
-#[derive(Drop)]
+#[derive(Clone, Copy)]
 pub struct Repetition {
     pub holds: bool,
     pub wish: bool,

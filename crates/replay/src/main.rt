@@ -17,7 +17,7 @@ fn show(terminal: bool, shown: u64, t: Tally) -> u64 {
 }
 
 // The counts at the end of the input, or where a read has failed.
-#[derive(Drop)]
+#[derive(Clone, Copy)]
 struct Ended {
     tally: Tally,
     failed: bool,

@@ -7,7 +7,7 @@ ghost use Rattle.rounds.specs.RoundLaws.{received};
 use port::{Event, Notices, Port, Written};
 
 // Two ports after a round, and what each raised in it.
-#[derive(Drop)]
+#[derive(Clone, Copy)]
 pub struct Pair {
     pub left: Port,
     pub right: Port,

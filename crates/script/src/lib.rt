@@ -8,7 +8,7 @@ use lines::{Due, Flag, Kind, Line, Unread};
 use words::Number;
 
 // The first word of an event that is no frame.
-#[derive(Drop)]
+#[derive(Clone, Copy)]
 pub enum Keyword {
     Gone,
     Take,

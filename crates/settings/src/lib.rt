@@ -12,7 +12,7 @@ use setup::Part;
 use tlv::Revision;
 
 // A setting, with the number of its line.
-#[derive(Drop)]
+#[derive(Clone, Copy)]
 pub struct Setting {
     pub number: u64,
     pub max: u8,
@@ -23,7 +23,7 @@ pub struct Setting {
 
 // What a control line says: its port, and whether it begins with it, the highest version and the revision; with the number of the
 // line.
-#[derive(Drop)]
+#[derive(Clone, Copy)]
 pub struct Head {
     pub number: u64,
     pub given: bool,
@@ -34,7 +34,7 @@ pub struct Head {
 
 // The settings of a port; of Rev 1.0 what stands for applications is not looked at. Where `good` is false the line that is `due`
 // cannot be read, or the input ended before it.
-#[derive(Drop)]
+#[derive(Clone, Copy)]
 pub struct Settings {
     pub good: bool,
     pub due: Part,
@@ -46,7 +46,7 @@ pub struct Settings {
 }
 
 // A line of the settings, and its port, and the revision of a control line; where `good` is false it cannot be read, or is missing.
-#[derive(Drop)]
+#[derive(Clone, Copy)]
 struct Read {
     good: bool,
     due: Part,
@@ -58,7 +58,7 @@ struct Read {
 }
 
 // A line whose setting is invalid, and why; line 0 where there is none.
-#[derive(Drop)]
+#[derive(Clone, Copy)]
 pub struct Invalid {
     pub line: u64,
     pub why: Fault,
@@ -66,7 +66,7 @@ pub struct Invalid {
 
 // The settings of two ends. Where `good` is false, what is wrong with them stands in the output up to `at`, which is 0 where a read
 // has failed.
-#[derive(Drop)]
+#[derive(Clone, Copy)]
 pub struct Pair {
     pub good: bool,
     pub at: usize,
@@ -75,7 +75,7 @@ pub struct Pair {
 }
 
 // The settings of one end, as those of two.
-#[derive(Drop)]
+#[derive(Clone, Copy)]
 pub struct Single {
     pub good: bool,
     pub at: usize,
@@ -84,7 +84,7 @@ pub struct Single {
 
 // The recorder that the settings make, if they are `good`; behind them the events begin. The output holds the answers to its
 // creation, or what is wrong with the settings, up to `at`.
-#[derive(Drop)]
+#[derive(Clone, Copy)]
 pub struct Start {
     pub good: bool,
     pub recorder: Recorder,
@@ -378,7 +378,7 @@ fn refused(out: &mut [u8], s: Settings, refusal: u8) -> usize {
 }
 
 // What is told of the settings: whether all is good so far, and the place behind it.
-#[derive(Drop)]
+#[derive(Clone, Copy)]
 struct Told {
     good: bool,
     at: usize,
@@ -406,7 +406,7 @@ fn created(out: &mut [u8], before: Told, s: Settings, a: Answer) -> Told {
 }
 
 // The line that begins the settings of another port, or the first event: it is looked at, and stays the next.
-#[derive(Drop)]
+#[derive(Clone, Copy)]
 struct Ahead {
     more: bool,
     lines: Lines,

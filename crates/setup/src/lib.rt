@@ -9,7 +9,7 @@ use tlv::Revision;
 use words::Number;
 
 // The lines of an end's settings, the last of them for Rev 1.01 alone.
-#[derive(Drop)]
+#[derive(Clone, Copy)]
 pub enum Part {
     Control,
     Groups,

@@ -6,7 +6,7 @@ use contents::Reading;
 
 // A refusal's number of document 01 and its place in the frame; both 0 where there is none.
 #[repr(C)]
-#[derive(Drop)]
+#[derive(Clone, Copy)]
 pub struct Verdict {
     pub refusal: u32,
     pub place: usize,

@@ -9,7 +9,7 @@ use port::Port;
 pub mod text;
 
 // The counts of all lines that have ended, and what is held of the line that has not.
-#[derive(Drop)]
+#[derive(Clone, Copy)]
 pub struct Replay {
     pub tally: Tally,
     pub held: Held,

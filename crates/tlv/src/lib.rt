@@ -14,14 +14,14 @@ const DCBX: u8 = 127;
 const FIXED: [u8; 4] = [0x00, 0x1b, 0x21, 0x02];
 
 // The two revisions in the field (02, E11). Rev 1.0 has no application feature.
-#[derive(Drop)]
+#[derive(Clone, Copy)]
 pub enum Revision {
     Rev101,
     Rev10,
 }
 
 // Why a call is refused; `refusal_number` in specs/ gives document 01's number of each.
-#[derive(Drop)]
+#[derive(Clone, Copy)]
 pub enum Refusal {
     NotRunning,
     SeveralNeighbours,
@@ -39,7 +39,7 @@ pub enum Refusal {
 }
 
 // What stands at a place of the TLV.
-#[derive(Drop)]
+#[derive(Clone, Copy)]
 pub enum Head {
     // Nothing: the octets end here.
     End,

@@ -8,7 +8,7 @@ use repeating::Repetition;
 use tlv::{Refusal, Revision};
 
 // What a step leaves: the port at hand, the log, and the place of the output.
-#[derive(Drop)]
+#[derive(Clone, Copy)]
 pub struct Left {
     pub port: Port,
     pub log: Log,
@@ -17,7 +17,7 @@ pub struct Left {
 
 // What is written of an answer before the state; `raised` has the numbers of the notices raised, of the port and of features 2
 // to 4, 0 for none.
-#[derive(Drop)]
+#[derive(Clone, Copy)]
 struct Told {
     refusal: u8,
     place: usize,
@@ -29,7 +29,7 @@ struct Told {
 }
 
 // What a step that lends no output gives: what is told of it, and the port and the log behind it.
-#[derive(Drop)]
+#[derive(Clone, Copy)]
 struct Given {
     told: Told,
     port: Port,

@@ -9,7 +9,7 @@ use feature::{Decision, Reason, State};
 use parameters::{Feature, Parameters};
 
 // Which way a frame takes through steps 1 to 4: its control came twice, it runs at another version, or its features are handled.
-#[derive(Drop)]
+#[derive(Clone, Copy)]
 pub enum Course {
     Twice,
     OtherVersion,
@@ -17,7 +17,7 @@ pub enum Course {
 }
 
 // What a frame makes of a feature, but for the peer's parameters.
-#[derive(Drop)]
+#[derive(Clone, Copy)]
 pub struct Turn {
     pub decision: Decision,
     pub syncd: bool,

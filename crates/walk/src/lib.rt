@@ -1,4 +1,6 @@
 // The walk over the sub-TLVs of a frame, which may be halted before any of them (02, E6).
+#![tactic(auto)]
+
 ghost use Rattle.std.specs.Prelude.{◌≡◌, ◌+◌, ◌-◌, ◌<◌, ◌^◌, length, drop};
 ghost use Rattle.walk.specs.Halting.{begun, passed, finished};
 ghost use Rattle.walk.specs.HaltingLaws.{Came, Ahead, judged_end};
@@ -8,7 +10,7 @@ use tlv::{Head, Refusal};
 
 // A walk over sub-TLVs, halted before one: its place, counted from 0 at the TLV's first octet, what it has found, and the last
 // control, so that no octet before its place is needed again (02, E6).
-#[derive(Drop)]
+#[derive(Clone, Copy)]
 pub struct Walk {
     pub at: usize,
     pub contents: Contents,
@@ -16,7 +18,7 @@ pub struct Walk {
 }
 
 // What the head at a walk's place makes of it.
-#[derive(Drop)]
+#[derive(Clone, Copy)]
 pub enum Step {
     // No sub-TLV is left.
     End,

@@ -11,7 +11,7 @@ const SPACE: u8 = 32;
 pub const LONGEST: usize = 1100;
 
 // A word that is to be a number.
-#[derive(Drop)]
+#[derive(Clone, Copy)]
 pub enum Number {
     Is(usize),
     Not,

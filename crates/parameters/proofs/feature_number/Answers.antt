@@ -1,5 +1,4 @@
 -- `feature_number` meets its contract. Assumes nothing.
-use borrow.Author.Rules.{rules}
 use Rattle.parameters.specs.Parameters.{feature_number}
 use Rattle.parameters.proofs.feature_number.Goals as goal
 

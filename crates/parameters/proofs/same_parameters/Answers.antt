@@ -1,5 +1,4 @@
 -- `same_parameters` meets its contract. Assumes nothing.
-use borrow.Author.Rules.{rules}
 use Rattle.parameters.specs.StoringLaws.{parameters_length, parameters_octets}
 use Rattle.parameters.proofs.same_parameters.Goals as goal
 

@@ -1,5 +1,4 @@
 -- `store_all` meets its contract. Assumes nothing.
-use borrow.Author.Rules.{rules}
 use Rattle.parameters.specs.StoringLaws.{first_room, stored_all}
 use Rattle.parameters.proofs.store_all.Goals as goal
 

@@ -1,6 +1,5 @@
 -- `behind` meets its contract. Assumes nothing.
 use Rattle.words.specs.TextLaws.{behind_found}
-use borrow.Author.Rules.{rules}
 use Rattle.words.proofs.behind.Goals as goal
 
 pub returns : goal.returns

@@ -1,8 +1,5 @@
 -- `hex_digits` meets its contract: the first i octets are hex digits or not, and the rest decides with them. Assumes nothing.
-use Prim.Native.Nat.{◌-◌}
-use lib.ListN.{length}
-use borrow.Author.Rules.{rules}
-use Rattle.words.specs.TextLaws.{Hexing, hexing_start, hexing_on, hexing_end}
+use Rattle.words.specs.TextLaws.{hexing_on, hexing_end}
 use Rattle.words.proofs.hex_digits.Goals as goal
 
 pub loop-i-preserved : goal.loop-i-preserved

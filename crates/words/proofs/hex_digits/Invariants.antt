@@ -1,8 +1,7 @@
 -- `hex_digits` meets its contract: the first i octets are hex digits or not, and the rest decides with them. Assumes nothing.
 use Prim.Native.Nat.{◌-◌}
 use lib.ListN.{length}
-use borrow.Author.Rules.{rules}
-use Rattle.words.specs.TextLaws.{Hexing, hexing_start, hexing_on, hexing_end}
+use Rattle.words.specs.TextLaws.{Hexing}
 use Rattle.words.proofs.hex_digits.Given as goal
 
 abbrev pub invariant-loop-i : goal.invariant-loop-i

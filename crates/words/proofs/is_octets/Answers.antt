@@ -1,6 +1,5 @@
 -- `is_octets` meets its contract. Assumes nothing.
 use Rattle.words.specs.TextLaws.{octets_odd, octets_many, octets_hex}
-use borrow.Author.Rules.{rules}
 use Rattle.words.proofs.is_octets.Goals as goal
 
 pub returns-then-n-ne0 : goal.returns-then-n-ne0

@@ -1,6 +1,5 @@
 -- `nibble` meets its contract. Assumes nothing.
 use Rattle.words.specs.TextLaws.{nibble_digit, nibble_low, nibble_high, nibble_letter, nibble_fits}
-use borrow.Author.Rules.{rules}
 use Rattle.words.proofs.nibble.Goals as goal
 
 pub overflow_sub-result : goal.overflow_sub-result

@@ -1,8 +1,6 @@
 -- `nibbles` meets its contract: the first i values stand in the array. Assumes nothing.
 use Prim.Native.Nat.{◌-◌}
-use native.Mathlib.Omega.{arith}
-use borrow.Author.Rules.{rules}
-use Rattle.words.specs.TextLaws.{Valuing, valuing_start, valuing_more, valuing_end}
+use Rattle.words.specs.TextLaws.{Valuing}
 use Rattle.words.proofs.nibbles.Given as goal
 
 abbrev pub invariant-loop-i : goal.invariant-loop-i

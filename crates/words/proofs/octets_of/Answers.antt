@@ -1,9 +1,6 @@
 -- `octets_of` meets its contract. Assumes nothing.
-use Prim.Native.Nat.{◌-◌}
 use native.Mathlib.Omega.{arith}
-use borrow.Author.Rules.{rules}
-use Rattle.words.specs.Text.{pair_at}
-use Rattle.words.specs.TextLaws.{Listing, listing_start, listing_more, joining, octets_end}
+use Rattle.words.specs.TextLaws.{listing_start, listing_more, joining, octets_end}
 use Rattle.words.proofs.octets_of.Goals as goal
 
 pub loop-i-init : goal.loop-i-init

@@ -1,6 +1,5 @@
 -- `pair_at` meets its contract. Assumes nothing.
 use Rattle.words.specs.TextLaws.{pair_read}
-use borrow.Author.Rules.{rules}
 use Rattle.words.proofs.pair_at.Goals as goal
 
 pub returns : goal.returns

@@ -1,10 +1,8 @@
 -- `read_number_lem` meets its contract: the first i digits make n, which is at most the limit, and the rest decides. Assumes nothing.
 use Prim.Native.Nat.{◌-◌}
 use mathlib.Core.Path.{◌≡◌}
-use native.Mathlib.Omega.{arith}
 use lib.ListN.{length}
-use borrow.Author.Rules.{rules}
-use Rattle.words.specs.TextLaws.{Counting, number_none, number_long, counting_start, counting_not, counting_above, counting_on, counting_end, digit_fits}
+use Rattle.words.specs.TextLaws.{Counting}
 use Rattle.words.proofs.read_number.Given as goal
 
 abbrev pub invariant-loop-i : goal.invariant-loop-i

@@ -1,8 +1,7 @@
 -- `run` meets its contract: the first i octets are of the run, and the rest decides. Assumes nothing.
 use Prim.Native.Nat.{◌-◌}
 use lib.ListN.{length}
-use borrow.Author.Rules.{rules}
-use Rattle.words.specs.TextLaws.{Running, running_start, running_stop, running_on, running_end}
+use Rattle.words.specs.TextLaws.{Running}
 use Rattle.words.proofs.run.Given as goal
 
 abbrev pub invariant-loop-i : goal.invariant-loop-i

@@ -1,6 +1,5 @@
 -- `word` meets its contract. Assumes nothing.
 use Rattle.words.specs.TextLaws.{word_found}
-use borrow.Author.Rules.{rules}
 use Rattle.words.proofs.word.Goals as goal
 
 pub returns : goal.returns

@@ -1,7 +1,6 @@
 -- `word_at` meets its contract. Assumes nothing.
 use Prim.Native.Nat.{◌-◌}
-use Rattle.words.specs.WordsLaws.{Passing, passing_start, passing_more, passing_end}
-use borrow.Author.Rules.{rules}
+use Rattle.words.specs.WordsLaws.{Passing}
 use Rattle.words.proofs.word_at.Given as goal
 
 abbrev pub invariant-loop-i : goal.invariant-loop-i

@@ -1,5 +1,4 @@
 -- `flow::compatible` meets its contract. Assumes nothing.
-use borrow.Author.Rules.{rules}
 use Rattle.parameters.specs.FlowLaws.{flow_compatible}
 use Rattle.parameters.proofs.flow.compatible.Goals as goal
 

@@ -1,5 +1,4 @@
 -- `flow::local_values` meets its contract. Assumes nothing.
-use borrow.Author.Rules.{rules}
 use Rattle.parameters.specs.FlowLaws.{flow_local}
 use Rattle.parameters.proofs.flow.local_values.Goals as goal
 

@@ -1,7 +1,5 @@
 -- `flow::ones` meets its contract: the bits below `bit` are counted. Assumes nothing.
-use Prim.Native.Nat.{◌-◌}
-use borrow.Author.Rules.{rules}
-use Rattle.parameters.specs.FlowLaws.{Counted, counted_start, counted_more, counted_end}
+use Rattle.parameters.specs.FlowLaws.{counted_more, counted_end}
 use Rattle.parameters.proofs.flow.ones.Goals as goal
 
 pub loop-bit-preserved : goal.loop-bit-preserved

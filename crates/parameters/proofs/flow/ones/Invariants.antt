@@ -1,7 +1,6 @@
 -- `flow::ones` meets its contract: the bits below `bit` are counted. Assumes nothing.
 use Prim.Native.Nat.{◌-◌}
-use borrow.Author.Rules.{rules}
-use Rattle.parameters.specs.FlowLaws.{Counted, counted_start, counted_more, counted_end}
+use Rattle.parameters.specs.FlowLaws.{Counted}
 use Rattle.parameters.proofs.flow.ones.Given as goal
 
 abbrev pub invariant-loop-bit : goal.invariant-loop-bit

@@ -1,5 +1,4 @@
 -- `flow::valid` meets its contract. Assumes nothing.
-use borrow.Author.Rules.{rules}
 use Rattle.parameters.specs.FlowLaws.{flow_length, flow_number_lem}
 use Rattle.parameters.proofs.flow.valid.Goals as goal
 

@@ -1,8 +1,7 @@
 -- `groups::good_halves` meets its contract: the octets before i store good groups. Assumes nothing.
 use Prim.Native.Nat.{◌-◌}
 use lib.ListN.{length}
-use borrow.Author.Rules.{rules}
-use Rattle.parameters.specs.GroupsLaws.{Halves, halves_start, halves_bad, halves_more, halves_end}
+use Rattle.parameters.specs.GroupsLaws.{Halves}
 use Rattle.parameters.proofs.groups.good_halves.Given as goal
 
 abbrev pub invariant-loop-i : goal.invariant-loop-i

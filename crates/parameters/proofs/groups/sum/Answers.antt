@@ -1,8 +1,5 @@
 -- `groups::sum` meets its contract: the octets before i are added. Assumes nothing.
-use Prim.Native.Nat.{◌-◌}
-use lib.ListN.{length}
-use borrow.Author.Rules.{rules}
-use Rattle.parameters.specs.GroupsLaws.{Summed, summed_start, summed_more, summed_end}
+use Rattle.parameters.specs.GroupsLaws.{summed_more, summed_end}
 use Rattle.parameters.proofs.groups.sum.Goals as goal
 
 pub loop-i-preserved : goal.loop-i-preserved

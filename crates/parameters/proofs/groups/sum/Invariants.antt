@@ -1,8 +1,7 @@
 -- `groups::sum` meets its contract: the octets before i are added. Assumes nothing.
 use Prim.Native.Nat.{◌-◌}
 use lib.ListN.{length}
-use borrow.Author.Rules.{rules}
-use Rattle.parameters.specs.GroupsLaws.{Summed, summed_start, summed_more, summed_end}
+use Rattle.parameters.specs.GroupsLaws.{Summed}
 use Rattle.parameters.proofs.groups.sum.Given as goal
 
 abbrev pub invariant-loop-i : goal.invariant-loop-i

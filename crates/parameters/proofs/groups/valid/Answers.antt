@@ -1,7 +1,4 @@
 -- `groups::valid` meets its contract. Assumes nothing.
-use lib.ListN.{length-take}
-use borrow.Author.Rules.{rules}
-use native.Mathlib.Omega.{arith}
 use Rattle.parameters.specs.GroupsLaws.{groups_length, groups_halves, groups_sum, groups_number_lem}
 use Rattle.parameters.proofs.groups.valid.Goals as goal
 

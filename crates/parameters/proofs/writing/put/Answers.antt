@@ -1,6 +1,5 @@
 -- `parameters::writing::put` meets its contract. Assumes nothing.
 use Rattle.parameters.specs.WritingLaws.{room_of, put_of}
-use borrow.Author.Rules.{rules}
 use Rattle.parameters.proofs.writing.put.Goals as goal
 
 pub put-requires : goal.put-requires

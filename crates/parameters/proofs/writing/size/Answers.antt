@@ -1,6 +1,5 @@
 -- `parameters::writing::size` meets its contract. Assumes nothing.
 use Rattle.parameters.specs.WritingLaws.{size_of}
-use borrow.Author.Rules.{rules}
 use Rattle.parameters.proofs.writing.size.Goals as goal
 
 pub returns : goal.returns
