@@ -1,4 +1,6 @@
 // The port that a line may begin with, and lines that are passed over, as docs/FORMATS.md fixes them.
+#![tactic(auto)]
+
 ghost use Rattle.std.specs.Prelude.{◌≡◌};
 ghost use Rattle.addressing.specs.Addressing.{port_word, port_number, behind_port, passed_over};
 

@@ -1,4 +1,6 @@
 // Octets in and out at a place. Past the end of the output nothing is written, and the place stays.
+#![tactic(auto)]
+
 ghost use Rattle.std.specs.Prelude.{◌<◌, ◌≤◌};
 
 // The two-octet number at `at`, high octet first.

@@ -1,4 +1,6 @@
 // A capture: its lines, wherever its octets are cut into reads, and the form of a line (docs/FORMATS.md, Captures).
+#![tactic(auto)]
+
 ghost use Rattle.std.specs.Prelude.{◌≡◌, [], ◌++◌, ◌+◌, ◌≤◌, min, length, drop};
 ghost use Rattle.octets.specs.Words.{if◌then◌else◌};
 ghost use Rattle.octets.specs.Octets.{at};
