@@ -26,7 +26,7 @@ use Rattle.changes.specs.Changes as changes
 use Rattle.admission.specs.Admission as admission
 use Rattle.handling.specs.Handling as handling
 use Rattle.admission.specs.AdmissionLaws.{Admits}
-use Rattle.handling.specs.HandlingLaws.{handle_refused}
+use Rattle.handling.proofs.HandlingLaws.{handle_refused}
 use Rattle.port.specs.Writing as writing
 use Rattle.recorder.specs.declared.Recorder.{Recorder}
 use Rattle.recorder.specs.declared.Change.{Change}
