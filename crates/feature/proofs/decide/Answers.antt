@@ -1,6 +1,5 @@
 -- `feature::decide` meets its contract. Assumes nothing.
-use Rattle.feature.specs.OutcomeLaws.{outcome_absent, outcome_duplicate, outcome_short, outcome_above, outcome_waiting, outcome_invalid, outcome_judged, valid_tested}
-use borrow.Author.Rules.{rules}
+use Rattle.feature.specs.OutcomeLaws.{outcome_absent, outcome_duplicate, outcome_short, outcome_above, outcome_waiting, outcome_invalid, outcome_judged}
 use Rattle.feature.proofs.decide.Goals as goal
 
 pub returns-then-count-eq0 : goal.returns-then-count-eq0

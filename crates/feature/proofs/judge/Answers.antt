@@ -1,6 +1,5 @@
 -- `feature::judge` meets its contract. Assumes nothing.
 use Rattle.feature.specs.OutcomeLaws.{judged_own_off, judged_peer_off, judged_differ, judged_alike, judged_clash}
-use borrow.Author.Rules.{rules}
 use Rattle.feature.proofs.judge.Goals as goal
 
 pub returns-then-not-s : goal.returns-then-not-s
