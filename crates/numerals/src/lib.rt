@@ -1,4 +1,6 @@
 // Counters of 64 bits, and numbers in decimal.
+#![tactic(auto)]
+
 ghost use Rattle.std.specs.Prelude.{◌≡◌, [], ◌∷◌, ◌++◌, ◌+◌, ◌≤◌, length};
 ghost use Rattle.numerals.specs.Numerals.{more, decimal};
 ghost use Rattle.numerals.specs.NumeralLaws.{Laid, Spelled};

@@ -1,5 +1,7 @@
 // Text put into a buffer: words, numbers, octets, and forms with numbers in them.
 // Each function puts its text at a place and gives the place behind it. Text that finds no room is left out.
+#![tactic(auto)]
+
 ghost use Rattle.std.specs.Prelude.{◌≡◌, ◌%◌, ◌≤◌, length};
 ghost use Rattle.printing.specs.Put.{Put, Numbered, glyph, hex_text};
 

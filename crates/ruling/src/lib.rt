@@ -1,4 +1,6 @@
 // The line of a verdict, put into an output.
+#![tactic(auto)]
+
 ghost use Rattle.std.specs.Prelude.{◌≡◌, ◌≤◌, length};
 ghost use Rattle.numerals.specs.NumeralLaws.{Laid};
 ghost use Rattle.ruling.specs.Ruling.{Accepted, Rejected, verdict_text};

@@ -1,0 +1,10 @@
+-- `place_of` is safe and ends, and its result lies between. Assumes nothing.
+use Prim.Native.Nat.{◌-◌, ◌≤◌, max}
+use lib.ListN.{length}
+use Rattle.printing.proofs.forms.place_of.Given as goal
+
+abbrev pub invariant-loop-i : goal.invariant-loop-i
+invariant-loop-i l = (l.from ≤ l.i) × (l.i ≤ max l.from (length l.s))
+
+abbrev pub decreases-loop-i : goal.decreases-loop-i
+decreases-loop-i l = length l.s - l.i

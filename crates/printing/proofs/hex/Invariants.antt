@@ -1,0 +1,11 @@
+-- `hex` meets its contract: the first i octets stand as digits at their place. Assumes nothing.
+use Prim.Native.Nat.{◌-◌}
+use lib.ListN.{length}
+use Rattle.printing.specs.PutLaws.{Spelling}
+use Rattle.printing.proofs.hex.Given as goal
+
+abbrev pub invariant-loop-i : goal.invariant-loop-i
+invariant-loop-i l = Spelling l.initial.out l.out l.s l.at l.i
+
+abbrev pub decreases-loop-i : goal.decreases-loop-i
+decreases-loop-i l = length l.s - l.i
