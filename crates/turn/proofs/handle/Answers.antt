@@ -1,6 +1,5 @@
 -- `turn::handle` meets its contract. Assumes nothing.
-use Rattle.turn.specs.TurnLaws.{turn_twice, turn_other, turn_exchange}
-use Rattle.std.proofs.Common.{rules}
+use Rattle.turn.specs.TurnLaws.{turn_other}
 use Rattle.turn.proofs.handle.Goals as goal
 
 pub returns-in-OtherVersion : goal.returns-in-OtherVersion

@@ -1,6 +1,5 @@
 -- `turn::keeps` meets its contract. Assumes nothing.
 use Rattle.turn.specs.TurnLaws.{keeps_withheld, keeps_twice, keeps_other, keeps_exchange}
-use Rattle.std.proofs.Common.{rules}
 use Rattle.turn.proofs.keeps.Goals as goal
 
 pub returns-then-not-s : goal.returns-then-not-s

@@ -1,6 +1,5 @@
 -- `turn::peer_parameters_after` meets its contract. Assumes nothing.
 use Rattle.turn.specs.TurnLaws.{held_kept, held_brought, held_none}
-use Rattle.std.proofs.Common.{rules}
 use Rattle.turn.proofs.peer_parameters_after.Goals as goal
 
 pub returns-then-keeps : goal.returns-then-keeps

@@ -1,6 +1,5 @@
 -- `turn::receive` meets its contract. Assumes nothing.
 use Rattle.turn.specs.TurnLaws.{receive_withheld, receive_advertised}
-use Rattle.std.proofs.Common.{rules}
 use Rattle.turn.proofs.receive.Goals as goal
 
 pub returns-then-not-s : goal.returns-then-not-s

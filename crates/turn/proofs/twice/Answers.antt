@@ -1,6 +1,5 @@
 -- `turn::twice` meets its contract. Assumes nothing.
 use Rattle.turn.specs.TurnLaws.{twice_withheld, twice_advertised}
-use Rattle.std.proofs.Common.{rules}
 use Rattle.turn.proofs.twice.Goals as goal
 
 pub returns-then-not-s : goal.returns-then-not-s

@@ -1,6 +1,5 @@
 -- `turn::weigh` meets its contract. Assumes nothing.
 use Rattle.turn.specs.TurnLaws.{weighed_oper, weighed_error, weighed_same}
-use Rattle.std.proofs.Common.{rules}
 use Rattle.turn.proofs.weigh.Goals as goal
 
 pub returns-then-o-d : goal.returns-then-o-d
