@@ -1,5 +1,7 @@
 // Applications: entries of six octets, each a protocol id (2), an octet with OUI bits 23-18 above a 2-bit selector, OUI 1b 21 and a priority
 // map. Those under another OUI are not ours, and are passed over.
+#![tactic(auto)]
+
 ghost use Rattle.std.specs.Prelude.{◌≡◌, ◌<◌};
 ghost use Rattle.parameters.specs.Parameters.{all_from, clash, compatible, entry_count, id_of, is_ours, local_values, map_of, ours, same_name, selector_of, stored, valid};
 ghost use Rattle.applications.specs.StepsLaws.{other_name};

@@ -22,7 +22,7 @@ use Rattle.reading.specs.Reading.{Walked, onward, walk_from, walked, judged_cont
 use Rattle.tlv.specs.Layout.{fixed_octets, type_at, length_at, is_dcbx}
 use Rattle.contents.specs.Contents.{counts, found_again, noted, no_contents, value_of, head_of}
 use Rattle.tlv.specs.Laws.{head_end, head_past, head_whole}
-use Rattle.reading.specs.ReadingLaws.{walked_inside}
+use Rattle.reading.proofs.ReadingLaws.{walked_inside}
 use Rattle.calls.specs.Calls.{frame}
 use Rattle.calls.specs.Rows.{past_end, controls_in, controls, overrun_at, control_at, the_one, not_dcbx}
 use Rattle.calls.specs.Table.{place_beside}

@@ -10,7 +10,7 @@ use borrow.Author.Tests.{eqb-true, eqb-false}
 use Rattle.octets.specs.Words.{if◌then◌else◌, ◌is◌}
 use Rattle.notices.specs.Notices.{is_port}
 use Rattle.notices.specs.Notices as numbers
-use Rattle.notices.specs.PortLaws.{is_port_lem, port_is}
+use Rattle.notices.proofs.PortLaws.{is_port_lem, port_is}
 use Rattle.port.specs.declared.Port.{Port}
 use Rattle.port.specs.declared.Event.{Event}
 use Rattle.creation.specs.Creation.{blank_port}

@@ -8,7 +8,7 @@ use borrow.Author.Tests.{ne_eqb}
 use Rattle.octets.specs.Words.{if◌then◌else◌, ◌is◌}
 use Rattle.notices.specs.declared.Notice.{Notice}
 use Rattle.notices.specs.Notices.{PortNumber, empty_log, notices_in, of}
-use Rattle.notices.specs.PortLaws.{of_append}
+use Rattle.notices.proofs.PortLaws.{of_append}
 use Rattle.notices.specs.LogModel.{newest16}
 use Rattle.port.specs.declared.Port as machine
 use Rattle.port.specs.declared.Raised.{Raised}

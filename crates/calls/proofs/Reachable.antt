@@ -10,7 +10,7 @@ use borrow.Author.Tests.{eqb-true, eqb-false}
 use Rattle.octets.specs.Words.{if◌then◌else◌, ◌is◌}
 use Rattle.notices.specs.Notices.{is_port}
 use Rattle.notices.specs.Notices as numbers
-use Rattle.notices.specs.PortLaws.{is_port_lem}
+use Rattle.notices.proofs.PortLaws.{is_port_lem}
 use Rattle.tlv.specs.declared.Refusal.TheVariants.{InvalidSetting, NoPort}
 use Rattle.tlv.specs.Revisions.{has_applications}
 use Rattle.parameters.specs.declared.Feature.{Feature}

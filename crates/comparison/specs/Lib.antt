@@ -1,4 +1,2 @@
 pub mod Comparison
 pub mod Places
-pub mod ComparisonLaws
-pub mod PlaceLaws

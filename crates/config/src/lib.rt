@@ -1,4 +1,6 @@
 // The configuration of any of the three features: what is valid, what is compatible, and how it is stored.
+#![tactic(auto)]
+
 ghost use Rattle.std.specs.Prelude.{◌≡◌, true};
 ghost use Rattle.parameters.specs.declared.Feature.TheVariants.{Applications};
 ghost use Rattle.parameters.specs.Parameters.{compatible, ours, stored, valid, valid_local};

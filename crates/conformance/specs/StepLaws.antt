@@ -9,7 +9,7 @@ use Rattle.capture.specs.Feeding.{fed_from, held_fed, ended}
 use Rattle.capture.specs.FeedingLaws as feeding
 use Rattle.judgement.specs.declared.Judged.{Judged}
 use Rattle.judgement.specs.Steps.{with_line, unjudged}
-use Rattle.judgement.specs.StepLaws.{with_clipped}
+use Rattle.judgement.proofs.StepLaws.{with_clipped}
 use Rattle.inspection.specs.declared.Reached.{Reached}
 use Rattle.inspection.specs.StepLaws.{Passes}
 use Rattle.conformance.specs.declared.Judging.{Judging}

@@ -14,8 +14,8 @@ use Rattle.contents.specs.declared.Reading.TheVariants.{Accepted}
 use Rattle.tlv.specs.Layout.{fixed_octets, frame_head}
 use Rattle.reading.specs.Reading.{walked, read_frame}
 use Rattle.contents.specs.Contents.{value_of}
-use Rattle.reading.specs.ValuesLaws.{Counted, Values, Part, Parts, parts_octets, part_counted, parts_values, LaidOut}
-use Rattle.reading.specs.ReadBackLaws.{ReadBack, read_parts}
+use Rattle.reading.proofs.ValuesLaws.{Counted, Values, Part, Parts, parts_octets, part_counted, parts_values, LaidOut}
+use Rattle.reading.proofs.ReadBackLaws.{ReadBack, read_parts}
 use Rattle.parameters.specs.declared.Feature.{Feature}
 use Rattle.parameters.specs.declared.Feature.TheVariants.{Groups, Flow, Applications}
 use Rattle.parameters.specs.Parameters.{feature_number, valid_groups, valid_flow, valid, ours, content}

@@ -12,7 +12,7 @@ use Rattle.port.specs.declared.Written.{Written}
 use Rattle.port.specs.declared.Written.TheVariants as wrote
 use Rattle.port.specs.Writing.{frame, written}
 use Rattle.port.specs.Sound.{SoundPort}
-use Rattle.port.specs.WritingLaws.{frame_longest}
+use Rattle.port.proofs.WritingLaws.{frame_longest}
 use Rattle.rounds.specs.Rounds.{left, right, other, writes, handles, Ends, Round, quiet, maybe, write_of, handle_of, calls, rounds, exec, Accepts, Proper}
 use Rattle.exchange.specs.Demand3.{Begun}
 use Rattle.exchange.proofs.Core.{Settings}

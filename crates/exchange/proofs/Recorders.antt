@@ -9,7 +9,7 @@ use lib.ListN.{length}
 use borrow.Author.Tests.{eqb-true, eqb-false}
 use Rattle.octets.specs.Words.{◌is◌}
 use Rattle.notices.specs.Notices.{PortNumber}
-use Rattle.notices.specs.PortLaws.{port_is}
+use Rattle.notices.proofs.PortLaws.{port_is}
 use Rattle.handling.specs.Handling as handling
 use Rattle.recorder.specs.declared.Recorder.{Recorder}
 use Rattle.recorder.specs.Recorder.{port_at, happens, changed, written, output}

@@ -12,7 +12,7 @@ use Rattle.parameters.specs.declared.Feature.{Feature}
 use Rattle.port.specs.declared.Port.{Port}
 use Rattle.feature.specs.declared.Switches.{Switches}
 use Rattle.notices.specs.Notices.{PortNumber, is_port}
-use Rattle.notices.specs.PortLaws.{port_is}
+use Rattle.notices.proofs.PortLaws.{port_is}
 use Rattle.port.specs.declared.Flag.{Flag}
 use Rattle.port.specs.declared.Flag.TheVariants.{Several}
 use Rattle.port.specs.declared.Versions.{Versions}

@@ -1,4 +1,6 @@
 // Why a local setting is refused with 9: the first of document 01's rules that its parameters break, with the numbers that say so.
+#![tactic(auto)]
+
 ghost use Rattle.std.specs.Prelude.{◌≡◌, ◌<◌, ◌≤◌};
 ghost use Rattle.parameters.specs.Parameters.{group_of, entry_count};
 ghost use Rattle.faults.specs.Faults.{bad_priority, foreign_entry, first_entry, second_entry, high_selector, groups_fault, flow_fault, applications_fault, fault_of};

@@ -1,4 +1,6 @@
 // One feature: its setting, its state by their parts, and the outcome rules that all three features share.
+#![tactic(auto)]
+
 ghost use Rattle.std.specs.Prelude.{◌≡◌, true};
 ghost use Rattle.parameters.specs.Parameters.{content, no_parameters, valid};
 ghost use Rattle.feature.specs.Reasons.{reason_number};

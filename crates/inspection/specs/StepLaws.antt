@@ -20,13 +20,13 @@ use Rattle.capture.specs.FeedingLaws as feeding
 use Rattle.numerals.specs.Numerals.{more}
 use Rattle.comparison.specs.declared.Compared.{Compared}
 use Rattle.comparison.specs.Comparison.{compared_with}
-use Rattle.comparison.specs.ComparisonLaws.{frame_is}
+use Rattle.comparison.proofs.ComparisonLaws.{frame_is}
 use Rattle.judgement.specs.declared.Course.{Course}
 use Rattle.judgement.specs.declared.Judged.{Judged}
 use Rattle.judgement.specs.Entries.{change_on}
 use Rattle.judgement.specs.Courses.{sent_on, given_on}
 use Rattle.judgement.specs.Steps.{rejected_with, with_entry, with_line}
-use Rattle.judgement.specs.StepLaws.{line_behind, line_due, line_other, line_given, line_no_frame}
+use Rattle.judgement.proofs.StepLaws.{line_behind, line_due, line_other, line_given, line_no_frame}
 use Rattle.inspection.specs.declared.Reached.{Reached}
 
 -- ---- what happens at the port

@@ -1,5 +1,3 @@
 pub mod Entries
 pub mod Courses
 pub mod Steps
-pub mod CourseLaws
-pub mod StepLaws

@@ -4,10 +4,3 @@ pub mod Revisions
 pub mod Promises
 pub mod Resuming
 pub mod Walking
-pub mod ReadingLaws
-pub mod ValuesLaws
-pub mod WrittenLaws
-pub mod ReadBackLaws
-pub mod WalkingLaws
-pub mod RevisionLaws
-pub mod ResumingLaws

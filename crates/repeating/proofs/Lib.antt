@@ -2,3 +2,5 @@
 pub mod Judging
 pub mod Repeated
 pub mod Reachable
+pub mod HoldingLaws
+pub mod RepeatingLaws

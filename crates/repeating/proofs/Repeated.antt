@@ -37,14 +37,15 @@ use Rattle.port.specs.declared.Raised.TheVariants as raised
 use Rattle.port.specs.Parts.{feature_of, with_control, running}
 use Rattle.port.specs.Sound.{SoundState, SoundPort}
 use Rattle.port.specs.Writing.{control_value, asks}
-use Rattle.port.specs.WritingLaws.{asks_control}
+use Rattle.port.proofs.WritingLaws.{asks_control}
 use Rattle.sending.specs.Sending.{unacknowledged, completed}
 use Rattle.events.specs.PortEvents.{becomes}
 use Rattle.admission.specs.declared.Heard.{Heard}
 use Rattle.admission.specs.Admission.{message, has_of, newly_marked, rejected}
 use Rattle.handling.specs.Handling.{steps1to4, frame_event, accepted, given, handled}
 use Rattle.admission.specs.AdmissionLaws.{control_by, heard_of}
-use Rattle.handling.specs.HandlingLaws.{state_by, up_by, port_by, completed_by}
+use Rattle.handling.specs.HandlingLaws.{state_by, up_by, port_by}
+use Rattle.handling.proofs.HandlingLaws.{completed_by}
 use Rattle.repeating.specs.declared.Repetition.{Repetition}
 use Rattle.repeating.specs.Repeating.{otherwise, flags_are, whole_entries, holds_of, repeats_held, repeats_in, is_exchange, repeats_all, repeat_in, repeat_given, repetition}
 use Rattle.repeating.proofs.Judging.{JudgedState, Judged}

@@ -1,3 +1,1 @@
 pub mod Repeating
-pub mod HoldingLaws
-pub mod RepeatingLaws

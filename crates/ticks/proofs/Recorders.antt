@@ -8,7 +8,7 @@ use lib.ListN.{length}
 use Rattle.parameters.specs.declared.Feature.{Feature}
 use Rattle.feature.specs.declared.Switches.{Switches}
 use Rattle.notices.specs.Notices.{PortNumber}
-use Rattle.notices.specs.PortLaws.{port_is}
+use Rattle.notices.proofs.PortLaws.{port_is}
 use Rattle.port.specs.Parts.{feature_of}
 use Rattle.changes.specs.Changes.{changed_setting}
 use Rattle.recorder.specs.declared.Recorder.{Recorder}

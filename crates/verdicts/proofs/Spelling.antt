@@ -38,7 +38,8 @@ use Rattle.port.specs.declared.Versions.{Versions}
 use Rattle.port.specs.Parts.{switched_off, feature_of, released_of, with_control, with_features, release, flag_of, with_flag, running}
 use Rattle.port.specs.Sound.{SoundParameters, SoundControl, SoundRelease, SoundPort}
 use Rattle.port.specs.Writing.{released_tlv, sub_tlvs, frame}
-use Rattle.port.specs.WritingLaws.{control_tlv, feature_tlvs, frame_longest}
+use Rattle.port.specs.WritingLaws.{control_tlv, feature_tlvs}
+use Rattle.port.proofs.WritingLaws.{frame_longest}
 use Rattle.sending.specs.Sending.{with_seq, raises_seq_no, sent, fresh_parts, fresh_port, step5, completed}
 use Rattle.events.specs.PortEvents.{event, unchanged, refused}
 use Rattle.flags.specs.Flags.{restarts, flag_notice, flag_set, flagged, peer_gone}

@@ -21,7 +21,7 @@ use Rattle.ruling.specs.Ruling.{Verdict, verdict_text}
 use Rattle.conformance.specs.Conformance.{verdict, port_behind, other, course_from}
 use Rattle.judgement.specs.Steps.{rejected_with, with_line, unjudged}
 use Rattle.conformance.specs.Steps.{judging_of, fed, finished, started, verdict_of}
-use Rattle.judgement.specs.StepLaws.{with_clipped}
+use Rattle.judgement.proofs.StepLaws.{with_clipped}
 use Rattle.conformance.specs.Text.{said_output}
 use Rattle.verdicts.specs.Verdicts.{Due, AllDue, FirstOther, capped_verdict, judged_on, Judges}
 use Rattle.verdicts.proofs.Walk.{state_of, walked, walk, walked_port, walked_course, walked_verdict}

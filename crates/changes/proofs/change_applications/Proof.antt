@@ -1,5 +1,5 @@
 -- `changes::change_applications` meets its contract. Assumes nothing.
-use Rattle.changes.specs.ChangeLaws.{change_no_applications, change_applications}
+use Rattle.changes.proofs.ChangeLaws.{change_no_applications, change_applications}
 use borrow.Author.Rules.{rules}
 use Rattle.changes.proofs.change_applications.Statement.{statement}
 use Rattle.changes.proofs.change_applications.Tie as tie

@@ -1,5 +1,5 @@
 -- `changes::change_feature` meets its contract. Assumes nothing.
-use Rattle.changes.specs.ChangeLaws.{change_invalid, change_valid}
+use Rattle.changes.proofs.ChangeLaws.{change_invalid, change_valid}
 use borrow.Author.Rules.{rules}
 use Rattle.changes.proofs.change_feature.Statement.{statement}
 use Rattle.changes.proofs.change_feature.Tie as tie

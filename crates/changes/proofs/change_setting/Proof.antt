@@ -1,5 +1,5 @@
 -- `changes::change_setting` meets its contract. Assumes nothing.
-use Rattle.changes.specs.ChangeLaws.{change_groups, change_flow, change_fourth, change_unknown}
+use Rattle.changes.proofs.ChangeLaws.{change_groups, change_flow, change_fourth, change_unknown}
 use borrow.Author.Rules.{rules}
 use Rattle.changes.proofs.change_setting.Statement.{statement}
 use Rattle.changes.proofs.change_setting.Tie as tie

@@ -1,5 +1,5 @@
 -- `changes::complete` meets its contract. Assumes nothing.
-use Rattle.changes.specs.ChangeLaws.{complete_is}
+use Rattle.changes.proofs.ChangeLaws.{complete_is}
 use borrow.Author.Rules.{rules}
 use Rattle.changes.proofs.complete.Statement.{statement}
 use Rattle.changes.proofs.complete.Tie as tie

@@ -1,5 +1,5 @@
 -- `changes::set_feature` meets its contract. Assumes nothing.
-use Rattle.changes.specs.ChangeLaws.{set-running, set-stopped}
+use Rattle.changes.proofs.ChangeLaws.{set-running, set-stopped}
 use borrow.Author.Rules.{rules}
 use Rattle.changes.proofs.set_feature.Statement.{statement}
 use Rattle.changes.proofs.set_feature.Tie as tie

@@ -1,5 +1,5 @@
 -- `changes::set_to` meets its contract. Assumes nothing.
-use Rattle.changes.specs.ChangeLaws.{set_same, set_other}
+use Rattle.changes.proofs.ChangeLaws.{set_same, set_other}
 use borrow.Author.Rules.{rules}
 use Rattle.changes.proofs.set_to.Statement.{statement}
 use Rattle.changes.proofs.set_to.Tie as tie

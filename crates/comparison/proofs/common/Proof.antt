@@ -1,5 +1,5 @@
 -- `common` meets its contract: the first i octets are the same, and the rest decides. Assumes nothing.
-use Rattle.comparison.specs.ComparisonLaws.{Sharing, sharing_start, sharing_on, sharing_differs, sharing_short, sharing_end}
+use Rattle.comparison.proofs.ComparisonLaws.{Sharing, sharing_start, sharing_on, sharing_differs, sharing_short, sharing_end}
 use Prim.Native.Nat.{◌-◌}
 use lib.ListN.{length}
 use borrow.Author.Rules.{rules}

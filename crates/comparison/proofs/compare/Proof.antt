@@ -1,5 +1,5 @@
 -- `compare` meets its contract. Assumes nothing.
-use Rattle.comparison.specs.ComparisonLaws.{compare_stopped, compare_running}
+use Rattle.comparison.proofs.ComparisonLaws.{compare_stopped, compare_running}
 use borrow.Author.Rules.{rules}
 use Rattle.comparison.proofs.compare.Statement.{statement}
 use Rattle.comparison.proofs.compare.Tie as tie

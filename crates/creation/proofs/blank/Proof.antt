@@ -1,5 +1,5 @@
 -- `creation::blank` meets its contract. Assumes nothing.
-use Rattle.creation.specs.CreationLaws.{blank_is}
+use Rattle.creation.proofs.CreationLaws.{blank_is}
 use borrow.Author.Rules.{rules}
 use Rattle.creation.proofs.blank.Statement.{statement}
 use Rattle.creation.proofs.blank.Tie as tie

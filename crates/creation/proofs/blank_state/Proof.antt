@@ -1,5 +1,5 @@
 -- `creation::blank_state` meets its contract. Assumes nothing.
-use Rattle.creation.specs.CreationLaws.{blank_state_lem}
+use Rattle.creation.proofs.CreationLaws.{blank_state_lem}
 use borrow.Author.Rules.{rules}
 use Rattle.creation.proofs.blank_state.Statement.{statement}
 use Rattle.creation.proofs.blank_state.Tie as tie

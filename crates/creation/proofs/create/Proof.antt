@@ -1,5 +1,5 @@
 -- `creation::create` meets its contract. Assumes nothing.
-use Rattle.creation.specs.CreationLaws.{created_101, created_10}
+use Rattle.creation.proofs.CreationLaws.{created_101, created_10}
 use borrow.Author.Rules.{rules}
 use Rattle.creation.proofs.create.Statement.{statement}
 use Rattle.creation.proofs.create.Tie as tie

@@ -1,5 +1,5 @@
 -- `creation::create_with` meets its contract. Assumes nothing.
-use Rattle.creation.specs.CreationLaws.{created_groups, created_flow, created_applications, created_made}
+use Rattle.creation.proofs.CreationLaws.{created_groups, created_flow, created_applications, created_made}
 use borrow.Author.Rules.{rules}
 use Rattle.creation.proofs.create_with.Statement.{statement}
 use Rattle.creation.proofs.create_with.Tie as tie

@@ -1,5 +1,5 @@
 -- `creation::make` meets its contract. Assumes nothing.
-use Rattle.creation.specs.CreationLaws.{made_is}
+use Rattle.creation.proofs.CreationLaws.{made_is}
 use borrow.Author.Rules.{rules}
 use Rattle.creation.proofs.make.Statement.{statement}
 use Rattle.creation.proofs.make.Tie as tie

@@ -1,5 +1,5 @@
 -- `creation::start` meets its contract. Assumes nothing.
-use Rattle.creation.specs.CreationLaws.{start_is}
+use Rattle.creation.proofs.CreationLaws.{start_is}
 use borrow.Author.Rules.{rules}
 use Rattle.creation.proofs.start.Statement.{statement}
 use Rattle.creation.proofs.start.Tie as tie

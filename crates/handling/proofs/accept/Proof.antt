@@ -1,6 +1,6 @@
 -- `handling::accept` meets its contract. Assumes nothing.
 use Rattle.admission.specs.AdmissionLaws.{accepted_inside, accepted_runs}
-use Rattle.handling.specs.HandlingLaws.{accept_released, accept_kept}
+use Rattle.handling.proofs.HandlingLaws.{accept_released, accept_kept}
 use borrow.Author.Rules.{rules}
 use Rattle.handling.proofs.accept.Statement.{statement}
 use Rattle.handling.proofs.accept.Tie as tie

@@ -1,5 +1,5 @@
 -- `handling::apply` meets its contract. Assumes nothing.
-use Rattle.handling.specs.HandlingLaws.{apply_is}
+use Rattle.handling.proofs.HandlingLaws.{apply_is}
 use borrow.Author.Rules.{rules}
 use Rattle.handling.proofs.apply.Statement.{statement}
 use Rattle.handling.proofs.apply.Tie as tie

@@ -1,5 +1,5 @@
 -- `handling::decide` meets its contract. Assumes nothing.
-use Rattle.handling.specs.HandlingLaws.{decide_is}
+use Rattle.handling.proofs.HandlingLaws.{decide_is}
 use borrow.Author.Rules.{rules}
 use Rattle.handling.proofs.decide.Statement.{statement}
 use Rattle.handling.proofs.decide.Tie as tie

@@ -1,6 +1,6 @@
 -- `handling::handle` meets its contract. Assumes nothing.
 use Rattle.admission.specs.AdmissionLaws.{admits_accepted}
-use Rattle.handling.specs.HandlingLaws.{handle_refused}
+use Rattle.handling.proofs.HandlingLaws.{handle_refused}
 use borrow.Author.Rules.{rules}
 use Rattle.handling.proofs.handle.Statement.{statement}
 use Rattle.handling.proofs.handle.Tie as tie

@@ -1,5 +1,5 @@
 -- `handling::release` meets its contract. Assumes nothing.
-use Rattle.handling.specs.HandlingLaws.{release_is}
+use Rattle.handling.proofs.HandlingLaws.{release_is}
 use borrow.Author.Rules.{rules}
 use Rattle.handling.proofs.release.Statement.{statement}
 use Rattle.handling.proofs.release.Tie as tie

@@ -1,6 +1,6 @@
 -- `handling::turn_of_applications` meets its contract. Assumes nothing.
 use Rattle.parameters.specs.WritingLaws.{content_of}
-use Rattle.handling.specs.HandlingLaws.{turn_is}
+use Rattle.handling.proofs.HandlingLaws.{turn_is}
 use borrow.Author.Rules.{rules}
 use Rattle.handling.proofs.turn_of_applications.Statement.{statement}
 use Rattle.handling.proofs.turn_of_applications.Tie as tie

@@ -1,5 +1,5 @@
 -- `take_other` meets its contract. Assumes nothing.
-use Rattle.judgement.specs.StepLaws.{other_passed, other_changed}
+use Rattle.judgement.proofs.StepLaws.{other_passed, other_changed}
 use borrow.Author.Rules.{rules}
 use Rattle.inspection.proofs.take_other.Statement.{statement}
 use Rattle.inspection.proofs.take_other.Tie as tie

@@ -1,5 +1,5 @@
 -- `reject` meets its contract. Assumes nothing.
-use Rattle.judgement.specs.StepLaws.{reject_is}
+use Rattle.judgement.proofs.StepLaws.{reject_is}
 use borrow.Author.Rules.{rules}
 use Rattle.judgement.proofs.reject.Statement.{statement}
 use Rattle.judgement.proofs.reject.Tie as tie

@@ -1,5 +1,5 @@
 -- `since` meets its contract. Assumes nothing.
-use Rattle.judgement.specs.CourseLaws.{since_asked, since_silent, since_refused}
+use Rattle.judgement.proofs.CourseLaws.{since_asked, since_silent, since_refused}
 use borrow.Author.Rules.{rules}
 use Rattle.judgement.proofs.since.Statement.{statement}
 use Rattle.judgement.proofs.since.Tie as tie

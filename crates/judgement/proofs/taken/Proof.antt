@@ -1,5 +1,5 @@
 -- `taken` meets its contract. Assumes nothing.
-use Rattle.judgement.specs.CourseLaws.{taken_done, taken_refused}
+use Rattle.judgement.proofs.CourseLaws.{taken_done, taken_refused}
 use borrow.Author.Rules.{rules}
 use Rattle.judgement.proofs.taken.Statement.{statement}
 use Rattle.judgement.proofs.taken.Tie as tie

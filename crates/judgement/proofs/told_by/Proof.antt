@@ -1,5 +1,5 @@
 -- `told_by` meets its contract. Assumes nothing.
-use Rattle.judgement.specs.StepLaws.{told_flag, told_setting}
+use Rattle.judgement.proofs.StepLaws.{told_flag, told_setting}
 use Rattle.judgement.specs.Entries.{told_by}
 use borrow.Author.Rules.{rules}
 use Rattle.judgement.proofs.told_by.Statement.{statement}

@@ -1,5 +1,5 @@
 -- `with_change` meets its contract. Assumes nothing.
-use Rattle.judgement.specs.CourseLaws.{changed_on_lem}
+use Rattle.judgement.proofs.CourseLaws.{changed_on_lem}
 use borrow.Author.Rules.{rules}
 use Rattle.judgement.proofs.with_change.Statement.{statement}
 use Rattle.judgement.proofs.with_change.Tie as tie

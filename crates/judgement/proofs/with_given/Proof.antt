@@ -1,5 +1,5 @@
 -- `with_given` meets its contract. Assumes nothing.
-use Rattle.judgement.specs.CourseLaws.{given_on_lem}
+use Rattle.judgement.proofs.CourseLaws.{given_on_lem}
 use borrow.Author.Rules.{rules}
 use Rattle.judgement.proofs.with_given.Statement.{statement}
 use Rattle.judgement.proofs.with_given.Tie as tie

@@ -1,5 +1,5 @@
 -- `with_passed` meets its contract. Assumes nothing.
-use Rattle.judgement.specs.CourseLaws.{passed_on_lem}
+use Rattle.judgement.proofs.CourseLaws.{passed_on_lem}
 use borrow.Author.Rules.{rules}
 use Rattle.judgement.proofs.with_passed.Statement.{statement}
 use Rattle.judgement.proofs.with_passed.Tie as tie

@@ -1,5 +1,5 @@
 -- `with_sent` meets its contract. Assumes nothing.
-use Rattle.judgement.specs.CourseLaws.{sent_on_lem}
+use Rattle.judgement.proofs.CourseLaws.{sent_on_lem}
 use borrow.Author.Rules.{rules}
 use Rattle.judgement.proofs.with_sent.Statement.{statement}
 use Rattle.judgement.proofs.with_sent.Tie as tie

@@ -1,7 +1,6 @@
 -- `reading::read` keeps its promise: a law for each of refusals 3 and 4, and the walk begun and gone on with for the rest. Assumes nothing.
-use borrow.Author.Rules.{rules}
 use Rattle.tlv.specs.Laws.{dcbx_some, dcbx_long}
-use Rattle.reading.specs.ResumingLaws.{read_other, read_length, read_ahead, read_finished}
+use Rattle.reading.proofs.ResumingLaws.{read_other, read_length, read_ahead, read_finished}
 use Rattle.reading.proofs.read.Goals as goal
 
 pub returns-then-not-is_dcbx : goal.returns-then-not-is_dcbx

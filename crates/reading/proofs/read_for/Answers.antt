@@ -1,6 +1,5 @@
 -- `reading::read_for` meets its contract. Assumes nothing.
-use Rattle.reading.specs.RevisionLaws.{reads_whole, reads_skipping}
-use borrow.Author.Rules.{rules}
+use Rattle.reading.proofs.RevisionLaws.{reads_whole, reads_skipping}
 use Rattle.reading.proofs.read_for.Goals as goal
 
 pub returns-then-has_applications : goal.returns-then-has_applications

@@ -1,6 +1,5 @@
 -- `reading::without_applications` meets its contract. Assumes nothing.
-use Rattle.reading.specs.RevisionLaws.{skip_refused, skip_accepted}
-use borrow.Author.Rules.{rules}
+use Rattle.reading.proofs.RevisionLaws.{skip_refused, skip_accepted}
 use Rattle.reading.proofs.without_applications.Goals as goal
 
 pub returns-in-Refused : goal.returns-in-Refused

@@ -1,5 +1,5 @@
 -- `recorder::apply` meets its contract. Assumes nothing.
-use Rattle.recorder.specs.RecorderLaws.{changed_nowhere, changed_as_frame, changed_gone, changed_flag, changed_setting_lem}
+use Rattle.recorder.proofs.RecorderLaws.{changed_nowhere, changed_as_frame, changed_gone, changed_flag, changed_setting_lem}
 use borrow.Author.Rules.{rules}
 use Rattle.recorder.proofs.apply.Statement.{statement}
 use Rattle.recorder.proofs.apply.Tie as tie

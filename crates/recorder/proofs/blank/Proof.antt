@@ -1,5 +1,5 @@
 -- `recorder::blank` meets its contract. Assumes nothing.
-use Rattle.recorder.specs.RecorderLaws.{blank_is}
+use Rattle.recorder.proofs.RecorderLaws.{blank_is}
 use borrow.Author.Rules.{rules}
 use Rattle.recorder.proofs.blank.Statement.{statement}
 use Rattle.recorder.proofs.blank.Tie as tie

@@ -1,5 +1,5 @@
 -- `recorder::create` meets its contract. Assumes nothing.
-use Rattle.recorder.specs.RecorderLaws.{created_nowhere, created_at}
+use Rattle.recorder.proofs.RecorderLaws.{created_nowhere, created_at}
 use borrow.Author.Rules.{rules}
 use Rattle.recorder.proofs.create.Statement.{statement}
 use Rattle.recorder.proofs.create.Tie as tie

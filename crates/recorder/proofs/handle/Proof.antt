@@ -1,6 +1,6 @@
 -- `recorder::handle` meets its contract. Assumes nothing.
 use Rattle.admission.specs.AdmissionLaws.{admits_accepted}
-use Rattle.recorder.specs.RecorderLaws.{changed_nowhere, changed_refused, changed_handled}
+use Rattle.recorder.proofs.RecorderLaws.{changed_nowhere, changed_refused, changed_handled}
 use borrow.Author.Rules.{rules}
 use Rattle.recorder.proofs.handle.Statement.{statement}
 use Rattle.recorder.proofs.handle.Tie as tie

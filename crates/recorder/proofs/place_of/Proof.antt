@@ -1,5 +1,5 @@
 -- `recorder::place_of` meets its contract. Assumes nothing.
-use Rattle.recorder.specs.RecorderLaws.{place_low, place_high, place_is}
+use Rattle.recorder.proofs.RecorderLaws.{place_low, place_high, place_is}
 use native.Mathlib.Omega.{arith}
 use borrow.Author.Rules.{rules}
 use Rattle.recorder.proofs.place_of.Statement.{statement}

@@ -1,5 +1,5 @@
 -- `recorder::store` meets its contract. Assumes nothing.
-use Rattle.recorder.specs.RecorderLaws.{stored_nowhere, stored_is}
+use Rattle.recorder.proofs.RecorderLaws.{stored_nowhere, stored_is}
 use borrow.Author.Rules.{rules}
 use Rattle.recorder.proofs.store.Statement.{statement}
 use Rattle.recorder.proofs.store.Tie as tie

@@ -1,5 +1,5 @@
 -- `recorder::write` meets its contract. Assumes nothing.
-use Rattle.recorder.specs.RecorderLaws.{wrote_nowhere, wrote_at}
+use Rattle.recorder.proofs.RecorderLaws.{wrote_nowhere, wrote_at}
 use borrow.Author.Rules.{rules}
 use Rattle.recorder.proofs.write.Statement.{statement}
 use Rattle.recorder.proofs.write.Tie as tie

@@ -1,6 +1,6 @@
 -- `repeating::holds` meets its contract. Assumes nothing.
 use borrow.Author.Rules.{rules}
-use Rattle.repeating.specs.HoldingLaws.{holds_groups, holds_flow, holds_applications}
+use Rattle.repeating.proofs.HoldingLaws.{holds_groups, holds_flow, holds_applications}
 use Rattle.repeating.proofs.holds.Statement.{statement}
 use Rattle.repeating.proofs.holds.Tie as tie
 

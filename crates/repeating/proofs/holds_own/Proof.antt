@@ -3,7 +3,7 @@ use Prim.Native.Nat.{◌-◌}
 use borrow.Author.Rules.{rules}
 use native.Mathlib.Omega.{arith}
 use Rattle.parameters.specs.Parameters.{entry_count}
-use Rattle.repeating.specs.HoldingLaws.{Walked, walked_start, walked_ragged, walked_room, walked_part, walked_foreign, walked_short, walked_other, walked_more, walked_end}
+use Rattle.repeating.proofs.HoldingLaws.{Walked, walked_start, walked_ragged, walked_room, walked_part, walked_foreign, walked_short, walked_other, walked_more, walked_end}
 use Rattle.repeating.proofs.holds_own.Statement.{statement}
 use Rattle.repeating.proofs.holds_own.Tie as tie
 

@@ -1,6 +1,6 @@
 -- `repeating::none_waits` meets its contract. Assumes nothing.
 use borrow.Author.Rules.{rules}
-use Rattle.repeating.specs.RepeatingLaws.{none_waits_is}
+use Rattle.repeating.proofs.RepeatingLaws.{none_waits_is}
 use Rattle.repeating.proofs.none_waits.Statement.{statement}
 use Rattle.repeating.proofs.none_waits.Tie as tie
 

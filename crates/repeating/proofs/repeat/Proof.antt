@@ -1,6 +1,6 @@
 -- `repeating::repeat` meets its contract. Assumes nothing.
 use borrow.Author.Rules.{rules}
-use Rattle.repeating.specs.RepeatingLaws.{repeat_waits, repeat_refused, repeat_accepted, reads_inside}
+use Rattle.repeating.proofs.RepeatingLaws.{repeat_waits, repeat_refused, repeat_accepted, reads_inside}
 use Rattle.repeating.proofs.repeat.Statement.{statement}
 use Rattle.repeating.proofs.repeat.Tie as tie
 

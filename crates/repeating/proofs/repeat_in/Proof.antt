@@ -1,6 +1,6 @@
 -- `repeating::repeat_in` meets its contract. Assumes nothing.
 use borrow.Author.Rules.{rules}
-use Rattle.repeating.specs.RepeatingLaws.{in_otherwise, in_other, in_repeated}
+use Rattle.repeating.proofs.RepeatingLaws.{in_otherwise, in_other, in_repeated}
 use Rattle.repeating.proofs.repeat_in.Statement.{statement}
 use Rattle.repeating.proofs.repeat_in.Tie as tie
 

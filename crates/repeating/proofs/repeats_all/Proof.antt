@@ -1,6 +1,6 @@
 -- `repeating::repeats_all` meets its contract. Assumes nothing.
 use borrow.Author.Rules.{rules}
-use Rattle.repeating.specs.RepeatingLaws.{all_flow, all_groups, all_applications}
+use Rattle.repeating.proofs.RepeatingLaws.{all_flow, all_groups, all_applications}
 use Rattle.repeating.proofs.repeats_all.Statement.{statement}
 use Rattle.repeating.proofs.repeats_all.Tie as tie
 

@@ -1,5 +1,5 @@
 -- `repeating::repeats_feature` meets its contract. Assumes nothing.
-use Rattle.repeating.specs.RepeatingLaws.{feature_withheld, feature_count, feature_once}
+use Rattle.repeating.proofs.RepeatingLaws.{feature_withheld, feature_count, feature_once}
 use borrow.Author.Rules.{rules}
 use Rattle.repeating.proofs.repeats_feature.Statement.{statement}
 use Rattle.repeating.proofs.repeats_feature.Tie as tie

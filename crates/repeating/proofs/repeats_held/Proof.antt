@@ -1,5 +1,5 @@
 -- `repeating::repeats_held` meets its contract. Assumes nothing.
-use Rattle.repeating.specs.RepeatingLaws.{held_not, held_short, held_oper, held_version, held_flags, held_same}
+use Rattle.repeating.proofs.RepeatingLaws.{held_not, held_short, held_oper, held_version, held_flags, held_same}
 use borrow.Author.Rules.{rules}
 use Rattle.repeating.proofs.repeats_held.Statement.{statement}
 use Rattle.repeating.proofs.repeats_held.Tie as tie

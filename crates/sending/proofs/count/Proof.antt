@@ -1,5 +1,5 @@
 -- `sending::count` meets its contract. Assumes nothing.
-use Rattle.sending.specs.SendingLaws.{count_idle, count_next}
+use Rattle.sending.proofs.SendingLaws.{count_idle, count_next}
 use Rattle.std.proofs.Common.{rules}
 use Rattle.sending.proofs.count.Statement.{statement}
 use Rattle.sending.proofs.count.Tie as tie

@@ -1,5 +1,5 @@
 -- `sending::fresh` meets its contract. Assumes nothing.
-use Rattle.sending.specs.SendingLaws.{fresh_running, fresh_stopped}
+use Rattle.sending.proofs.SendingLaws.{fresh_running, fresh_stopped}
 use Rattle.std.proofs.Common.{rules}
 use Rattle.sending.proofs.fresh.Statement.{statement}
 use Rattle.sending.proofs.fresh.Tie as tie

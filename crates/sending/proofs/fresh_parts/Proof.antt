@@ -1,5 +1,5 @@
 -- `sending::fresh_parts` meets its contract. Assumes nothing.
-use Rattle.sending.specs.SendingLaws.{fresh_parts_lem}
+use Rattle.sending.proofs.SendingLaws.{fresh_parts_lem}
 use Rattle.std.proofs.Common.{rules}
 use Rattle.sending.proofs.fresh_parts.Statement.{statement}
 use Rattle.sending.proofs.fresh_parts.Tie as tie

@@ -1,5 +1,5 @@
 -- `sending::presents` meets its contract. Assumes nothing.
-use Rattle.sending.specs.SendingLaws.{presents_is}
+use Rattle.sending.proofs.SendingLaws.{presents_is}
 use Rattle.std.proofs.Common.{rules}
 use Rattle.sending.proofs.presents.Statement.{statement}
 use Rattle.sending.proofs.presents.Tie as tie

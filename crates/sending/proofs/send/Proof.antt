@@ -1,5 +1,5 @@
 -- `sending::send` meets its contract. Assumes nothing.
-use Rattle.sending.specs.SendingLaws.{sent_stays, sent_raised}
+use Rattle.sending.proofs.SendingLaws.{sent_stays, sent_raised}
 use Rattle.std.proofs.Common.{rules}
 use Rattle.sending.proofs.send.Statement.{statement}
 use Rattle.sending.proofs.send.Tie as tie

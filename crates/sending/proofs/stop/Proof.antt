@@ -1,5 +1,5 @@
 -- `sending::stop` meets its contract. Assumes nothing.
-use Rattle.sending.specs.SendingLaws.{stop_is}
+use Rattle.sending.proofs.SendingLaws.{stop_is}
 use Rattle.std.proofs.Common.{rules}
 use Rattle.sending.proofs.stop.Statement.{statement}
 use Rattle.sending.proofs.stop.Tie as tie

@@ -1,7 +1,7 @@
 -- `walk::pass_sub_tlv` meets its contract: a law for the end, for one that runs over, and for one that is whole. Assumes nothing.
 use borrow.Author.Rules.{rules}
 use Rattle.tlv.specs.Laws.{head_ends, head_fits}
-use Rattle.walk.specs.HaltingLaws.{head_room, head_place, pass_end, pass_past, pass_whole}
+use Rattle.walk.proofs.HaltingLaws.{head_room, head_place, pass_end, pass_past, pass_whole}
 use Rattle.walk.proofs.pass_sub_tlv.Goals as goal
 
 pub returns-in-End : goal.returns-in-End

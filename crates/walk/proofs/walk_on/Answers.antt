@@ -1,6 +1,6 @@
 -- `walk::walk_on` meets its contract. The loop's invariant: what is left of the walk gives what the whole gives, and the control is in what was kept or in these octets (`GoingOn`). Assumes nothing.
 use Rattle.tlv.specs.Laws.{head_onward}
-use Rattle.walk.specs.HaltingLaws.{finish_start, finish_end, finish_past, finish_room, finish_place, finish_on}
+use Rattle.walk.proofs.HaltingLaws.{finish_start, finish_end, finish_past, finish_room, finish_place, finish_on}
 use Rattle.walk.proofs.walk_on.Goals as goal
 
 pub loop-place-init : goal.loop-place-init

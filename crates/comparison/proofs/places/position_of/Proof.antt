@@ -1,5 +1,5 @@
 -- `position_of` meets its contract: what is left of the walk gives the same as the whole. Assumes nothing.
-use Rattle.comparison.specs.PlaceLaws.{Seeking, position_head, seeking_start, seeking_none, seeking_past, seeking_inside, seeking_on, seeking_end}
+use Rattle.comparison.proofs.PlaceLaws.{Seeking, position_head, seeking_start, seeking_none, seeking_past, seeking_inside, seeking_on, seeking_end}
 use Rattle.tlv.specs.Laws.{head_fits}
 use Prim.Native.Nat.{◌-◌}
 use lib.ListN.{length}

@@ -1,5 +1,5 @@
 -- `port::writing::asks` meets its contract. Assumes nothing.
-use Rattle.port.specs.WritingLaws.{asks_turned, asks_stopped, asks_running}
+use Rattle.port.proofs.WritingLaws.{asks_turned, asks_stopped, asks_running}
 use borrow.Author.Rules.{rules}
 use Rattle.port.proofs.writing.asks.Statement.{statement}
 use Rattle.port.proofs.writing.asks.Tie as tie

@@ -1,5 +1,5 @@
 -- `port::writing::differs` meets its contract. Assumes nothing.
-use Rattle.port.specs.WritingLaws.{differs_length, differs_octets}
+use Rattle.port.proofs.WritingLaws.{differs_length, differs_octets}
 use borrow.Author.Rules.{rules}
 use Rattle.port.proofs.writing.differs.Statement.{statement}
 use Rattle.port.proofs.writing.differs.Tie as tie

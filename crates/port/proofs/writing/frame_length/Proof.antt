@@ -1,5 +1,5 @@
 -- `port::writing::frame_length` meets its contract. Assumes nothing.
-use Rattle.port.specs.WritingLaws.{length-of}
+use Rattle.port.proofs.WritingLaws.{length-of}
 use borrow.Author.Rules.{rules}
 use Rattle.port.proofs.writing.frame_length.Statement.{statement}
 use Rattle.port.proofs.writing.frame_length.Tie as tie

@@ -1,5 +1,5 @@
 -- `port::writing::frames_differ` meets its contract. Assumes nothing.
-use Rattle.port.specs.WritingLaws.{frames_control, frames_groups, frames_flow, frames_applications}
+use Rattle.port.proofs.WritingLaws.{frames_control, frames_groups, frames_flow, frames_applications}
 use borrow.Author.Rules.{rules}
 use Rattle.port.proofs.writing.frames_differ.Statement.{statement}
 use Rattle.port.proofs.writing.frames_differ.Tie as tie

@@ -1,5 +1,5 @@
 -- `port::writing::put_control` meets its contract. Assumes nothing.
-use Rattle.port.specs.WritingLaws.{control_put}
+use Rattle.port.proofs.WritingLaws.{control_put}
 use borrow.Author.Rules.{rules}
 use Rattle.port.proofs.writing.put_control.Statement.{statement}
 use Rattle.port.proofs.writing.put_control.Tie as tie

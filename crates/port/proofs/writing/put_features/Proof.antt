@@ -1,5 +1,5 @@
 -- `port::writing::put_features` meets its contract. Assumes nothing.
-use Rattle.port.specs.WritingLaws.{features_put}
+use Rattle.port.proofs.WritingLaws.{features_put}
 use borrow.Author.Rules.{rules}
 use Rattle.port.proofs.writing.put_features.Statement.{statement}
 use Rattle.port.proofs.writing.put_features.Tie as tie

@@ -1,5 +1,5 @@
 -- `port::writing::put_frame` meets its contract. Assumes nothing.
-use Rattle.port.specs.WritingLaws.{frame_put}
+use Rattle.port.proofs.WritingLaws.{frame_put}
 use borrow.Author.Rules.{rules}
 use Rattle.port.proofs.writing.put_frame.Statement.{statement}
 use Rattle.port.proofs.writing.put_frame.Tie as tie

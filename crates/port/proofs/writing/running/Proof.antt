@@ -1,5 +1,5 @@
 -- `port::writing::running` meets its contract. Assumes nothing.
-use Rattle.port.specs.WritingLaws.{stopped_admin, stopped_receive, running_transmit}
+use Rattle.port.proofs.WritingLaws.{stopped_admin, stopped_receive, running_transmit}
 use Rattle.port.proofs.writing.running.Statement.{statement}
 use Rattle.port.proofs.writing.running.Tie as tie
 

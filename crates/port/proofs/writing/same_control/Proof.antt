@@ -1,5 +1,5 @@
 -- `port::writing::same_control` meets its contract: octets of numbers below 2 ^ 32 tell them apart. Assumes nothing.
-use Rattle.port.specs.WritingLaws.{controls_oper, controls_max, controls_seq, controls_ack, controls_same}
+use Rattle.port.proofs.WritingLaws.{controls_oper, controls_max, controls_seq, controls_ack, controls_same}
 use native.Mathlib.Omega.{arith}
 use Rattle.port.proofs.writing.same_control.Statement.{statement}
 use Rattle.port.proofs.writing.same_control.Tie as tie

@@ -1,5 +1,5 @@
 -- `port::writing::write` meets its contract. Assumes nothing.
-use Rattle.port.specs.WritingLaws.{write_stopped, write_short, write_whole}
+use Rattle.port.proofs.WritingLaws.{write_stopped, write_short, write_whole}
 use borrow.Author.Rules.{rules}
 use Rattle.port.proofs.writing.write.Statement.{statement}
 use Rattle.port.proofs.writing.write.Tie as tie

@@ -1,0 +1,13 @@
+-- `foreign_entry` meets its contract. Assumes nothing.
+use Prim.Native.Nat.{◌-◌}
+use native.Mathlib.Omega.{arith}
+use Rattle.parameters.specs.Parameters.{entry_count, is_ours}
+use Rattle.faults.specs.FaultsLaws.{Seeking, seeking_start, foreign_more, foreign_found, foreign_end}
+use borrow.Author.Rules.{rules}
+use Rattle.faults.proofs.foreign_entry.Given as goal
+
+abbrev pub invariant-loop-i : goal.invariant-loop-i
+invariant-loop-i l = Seeking (entry_count l.p) (is_ours l.p) l.i
+
+abbrev pub decreases-loop-i : goal.decreases-loop-i
+decreases-loop-i l = entry_count l.p - l.i

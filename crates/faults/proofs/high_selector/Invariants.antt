@@ -1,0 +1,14 @@
+-- `high_selector` meets its contract. Assumes nothing.
+use Prim.Native.Nat.{◌-◌}
+use native.Mathlib.Omega.{arith}
+use Rattle.parameters.specs.Parameters.{entry_count}
+use Rattle.faults.specs.Faults.{low_selector}
+use Rattle.faults.specs.FaultsLaws.{Seeking, seeking_start, selector_more, selector_found, selector_end}
+use borrow.Author.Rules.{rules}
+use Rattle.faults.proofs.high_selector.Given as goal
+
+abbrev pub invariant-loop-i : goal.invariant-loop-i
+invariant-loop-i l = Seeking (entry_count l.p) (low_selector l.p) l.i
+
+abbrev pub decreases-loop-i : goal.decreases-loop-i
+decreases-loop-i l = entry_count l.p - l.i

@@ -1,0 +1,16 @@
+-- `second_entry` meets its contract. Assumes nothing.
+use Prim.Native.Nat.{◌-◌}
+use native.Mathlib.Omega.{arith}
+use Rattle.parameters.specs.Parameters.{entry_count, new_name}
+use Rattle.faults.specs.FaultsLaws.{Seeking, seeking_start, second_more, second_found, second_end}
+use borrow.Author.Rules.{rules}
+use Rattle.faults.proofs.second_entry.Goals as goal
+
+pub returns-then-first_entry-i : goal.returns-then-first_entry-i
+returns-then-first_entry-i c = search second_found
+
+pub loop-i-preserved : goal.loop-i-preserved
+loop-i-preserved c = search second_more
+
+pub returns : goal.returns
+returns c = search second_end
