@@ -1,34 +1,16 @@
 -- Writing a frame and the wish to send: what their functions promise, and a law for each way out of them, with premises in the form in
 -- which a test leaves them. Assumes nothing.
-use Rattle.std.specs.Prelude.{ℕ, ◌+◌, ◌-◌, ◌/◌, ◌<◌, ◌≤◌, ◌^◌, ◌≡◌, Bool, if◌then◌else◌}
-use Rattle.std.proofs.Common.{◌∙◌, arith, length-append, take_at, drop_at}
-use Rattle.std.proofs.Math.Path.{refl, sym, ap, ap₂}
-use Rattle.std.proofs.Math.Bool.{true, false, not}
-use Rattle.std.specs.Bool.{beq}
-use Rattle.std.proofs.lemmas.Bool.{false≢true}
-use mathlib.Core.List.{List, [], ◌∷◌, ◌++◌}
-use Rattle.std.proofs.Math.Nat.{zero-add}
-use borrow.Author.Tests.{not-true, not-false, lt-ltb, le-ltb, eqb-true}
-use Rattle.std.proofs.Math.ListN.{length, drop, take}
-use Rattle.std.proofs.lemmas.List.Edits.{sets}
-use Rattle.std.proofs.Math.Seq.{sets-eq, take-append_seam, drop-append_seam}
-use Rattle.octets.specs.Octets.{at, number4, octets4, same, headed, head}
-use Rattle.octets.specs.Laws.{and_left, same_is, same_refl, unlike, sets_append}
-use Rattle.tlv.specs.declared.Refusal.TheVariants.{NotRunning, ShortOutput}
-use Rattle.tlv.specs.Layout.{frame_head}
+use Rattle.std.specs.Prelude.{ℕ, ◌+◌, ◌≤◌, ◌≡◌, Bool}
+use mathlib.Core.List.{List, ◌++◌}
+use Rattle.std.proofs.Math.ListN.{length}
+use Rattle.octets.specs.Octets.{head}
 use Rattle.parameters.specs.declared.Feature.{Feature}
 use Rattle.parameters.specs.declared.Feature.TheVariants.{Groups, Flow, Applications}
-use Rattle.parameters.specs.Parameters.{feature_number, content, valid_groups, valid_flow, valid, ours}
-use Rattle.config.specs.FeatureLaws.{ours_length}
 use Rattle.feature.specs.declared.Release.{Release}
-use Rattle.machine.specs.State.{next, value, release_tlv, differing}
-use Rattle.machine.specs.StateLaws.{Sized, changed_not}
+use Rattle.machine.specs.State.{release_tlv, differing}
 use Rattle.port.specs.declared.Control.{Control}
 use Rattle.port.specs.declared.Port.{Port}
-use Rattle.port.specs.declared.Written.TheVariants.{Octets, Refused}
-use Rattle.port.specs.Parts.{feature_of, running}
-use Rattle.port.specs.Writing.{control_value, released_tlv, sub_tlvs, frame, to_write, asks, written, output, Wrote}
-use Rattle.port.specs.Sound.{SoundSetting, SoundPort}
+use Rattle.port.specs.Writing.{control_value, released_tlv, frame}
 
 -- ---- the parts of a frame
 

@@ -1,5 +1,7 @@
 // One port by its parts, and what an event gives: the answer, the next port and the notices it raises. Events are crates `creation`,
 // `flags`, `changes` and, of frames, `handling`.
+#![tactic(auto)]
+
 use feature::{Release, State};
 use notices::Kind;
 use tlv::{Refusal, Revision};
