@@ -2,9 +2,9 @@
 use Prim.Native.Nat.{ℕ, suc, ◌+◌, ◌-◌, ◌≤◌, ◌<◌}
 use native.Mathlib.Omega.{arith}
 use Rattle.std.proofs.Common.{add-one, sym, ap, ◌∙◌, lt-ltb, le-ltb}
-use Rattle.std.specs.Prelude.{◌≡◌, refl, List}
+use Rattle.std.specs.Prelude.{◌≡◌, refl, List, if◌then◌else◌}
 use Rattle.std.proofs.Math.ListN.{length}
-use Rattle.octets.specs.Words.{if◌then◌else◌, ◌below◌}
+use Rattle.octets.specs.Words.{◌below◌}
 use Rattle.tlv.specs.declared.Head.{Head}
 use Rattle.tlv.specs.declared.Head.TheVariants.{End, Past, SubTlv}
 use Rattle.tlv.specs.Layout.{head_at}
