@@ -6,7 +6,8 @@ use mathlib.Core.Bool.{Bool, true, false, not, ◌&&◌, false≢true}
 use mathlib.Core.List.{List, [], ◌∷◌, ◌++◌, map, append-nil}
 use lib.ListN.{set}
 use borrow.Author.Tests.{ne_eqb, eqb-true, eqb-false, not-true}
-use Rattle.octets.specs.Words.{if◌then◌else◌, ◌is◌}
+use Rattle.std.specs.Prelude.{if◌then◌else◌}
+use Rattle.octets.specs.Words.{◌is◌}
 use Rattle.octets.specs.Laws.{and_left, and_right}
 use Rattle.tlv.specs.Refusals.{Reply, refusal_number}
 use Rattle.notices.specs.declared.Notice.{Notice}

@@ -7,7 +7,8 @@ use mathlib.Core.List.{List, [], ◌∷◌}
 use lib.ListN.{length}
 use lib.Dec.{lit<}
 use borrow.Author.Tests.{eqb-true, eqb-false}
-use Rattle.octets.specs.Words.{if◌then◌else◌, ◌is◌}
+use Rattle.std.specs.Prelude.{if◌then◌else◌}
+use Rattle.octets.specs.Words.{◌is◌}
 use Rattle.notices.specs.Notices.{is_port}
 use Rattle.notices.specs.Notices as numbers
 use Rattle.notices.proofs.PortLaws.{is_port_lem}

@@ -1,8 +1,8 @@
 -- Demand 1: every call answers; it is refused exactly when the table says and with the number that the table's order gives, and its
 -- place. 01: "A refusal returns its number alone and changes nothing". 02, E1: "Demand 1 and document 01 then read: a refusal changes nothing but
 -- this mark and notice, with what a full log drops for it."
-use Rattle.std.specs.Prelude.{ℕ, ◌≡◌, Bool, false, not, ◌&&◌, ◌||◌, List, [], ◌∷◌, length, set}
-use Rattle.octets.specs.Words.{if◌then◌else◌, ◌is◌}
+use Rattle.std.specs.Prelude.{ℕ, ◌≡◌, Bool, false, not, ◌&&◌, ◌||◌, List, [], ◌∷◌, length, set, if◌then◌else◌}
+use Rattle.octets.specs.Words.{◌is◌}
 use Rattle.octets.specs.Octets.{same}
 use Rattle.tlv.specs.Refusals.{Reply, done}
 use Rattle.notices.specs.declared.Kind.TheVariants.{ControlError}

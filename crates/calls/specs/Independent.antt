@@ -1,7 +1,7 @@
 -- 02, E10: "A port's states, frames, refusals (12 excepted) and wish to send depend on its own events alone. Over events without takings, its
 -- newest 16 notices (or all, if fewer) do too". Calls are any, at any ports, from the blank recorder on, which creations fill.
-use Rattle.std.specs.Prelude.{ℕ, ◌≡◌, Bool, true, false, not, ◌&&◌, List, [], ◌∷◌}
-use Rattle.octets.specs.Words.{if◌then◌else◌, ◌is◌}
+use Rattle.std.specs.Prelude.{ℕ, ◌≡◌, Bool, true, false, not, ◌&&◌, List, [], ◌∷◌, if◌then◌else◌}
+use Rattle.octets.specs.Words.{◌is◌}
 use Rattle.notices.specs.Notices.{notices_in, of}
 use Rattle.notices.specs.LogModel.{newest16}
 use Rattle.recorder.specs.Recorder.{port_at, blank}

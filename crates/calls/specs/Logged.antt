@@ -1,6 +1,6 @@
 -- 02, E10, of the log, over any list of calls at any ports from the blank recorder on: what it holds of each port, and what it has counted.
-use Rattle.std.specs.Prelude.{ℕ, ◌+◌, ◌≤◌, min, ◌≡◌, Bool, true, not, ◌&&◌, List, [], ◌∷◌, ◌++◌, map, length, drop}
-use Rattle.octets.specs.Words.{if◌then◌else◌, ◌is◌}
+use Rattle.std.specs.Prelude.{ℕ, ◌+◌, ◌≤◌, min, ◌≡◌, Bool, true, not, ◌&&◌, List, [], ◌∷◌, ◌++◌, map, length, drop, if◌then◌else◌}
+use Rattle.octets.specs.Words.{◌is◌}
 use Rattle.notices.specs.declared.Notice.{Notice}
 use Rattle.notices.specs.Notices.{PortNumber, is_port, notices_in, of, count_of, dropped_of}
 use Rattle.notices.specs.LogModel.{Sound, Step, model_steps, losses, newest16}

@@ -1,8 +1,8 @@
 -- 01, Refusal numbers, with 02, E10: the table, and the order in which its rows are taken. Rows presuppose what those before them
 -- exclude: all others that the number names a port, 4 a head, 5 to 8 six octets before the sub-TLVs, 6 to 8 that all of these end within
 -- the frame, 8 a control of length 10.
-use Rattle.std.specs.Prelude.{ℕ, Bool, false, not, ◌&&◌, ◌||◌, List, [], ◌∷◌, length, drop}
-use Rattle.octets.specs.Words.{if◌then◌else◌, ◌below◌, ◌is◌}
+use Rattle.std.specs.Prelude.{ℕ, Bool, false, not, ◌&&◌, ◌||◌, List, [], ◌∷◌, length, drop, if◌then◌else◌}
+use Rattle.octets.specs.Words.{◌below◌, ◌is◌}
 use Rattle.octets.specs.Octets.{at}
 use Rattle.tlv.specs.Layout.{length_at}
 use Rattle.tlv.specs.Revisions.{has_applications}

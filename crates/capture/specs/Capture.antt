@@ -1,7 +1,7 @@
 -- 02, E8: "A capture holds one frame a line: `A` or `B` for the sender, a space, 0 to 513 pairs of lower-case hex digits, a line feed
 -- (the last line may lack it)."
-use Rattle.std.specs.Prelude.{ℕ, ◌&&◌, List, [], ◌∷◌, ◌++◌, take, drop}
-use Rattle.octets.specs.Words.{if◌then◌else◌, ◌is◌}
+use Rattle.std.specs.Prelude.{ℕ, ◌&&◌, List, [], ◌∷◌, ◌++◌, take, drop, if◌then◌else◌}
+use Rattle.octets.specs.Words.{◌is◌}
 use Rattle.octets.specs.Octets.{same}
 use Rattle.octets.specs.Texts.{text}
 use Rattle.words.specs.Text.{is_octets, octets_of}

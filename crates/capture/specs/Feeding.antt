@@ -1,6 +1,6 @@
 -- A value that each line of an input changes, over octets as they come: a line counts where it ends, whatever reads it stands in.
-use Rattle.std.specs.Prelude.{ℕ, List, [], ◌∷◌, ◌++◌}
-use Rattle.octets.specs.Words.{if◌then◌else◌, ◌is◌}
+use Rattle.std.specs.Prelude.{ℕ, List, [], ◌∷◌, ◌++◌, if◌then◌else◌}
+use Rattle.octets.specs.Words.{◌is◌}
 use Rattle.capture.specs.declared.Held.{Held}
 use Rattle.capture.specs.Steps.{clipped, held_of, pending}
 

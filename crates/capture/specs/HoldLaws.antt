@@ -2,13 +2,13 @@
 use Prim.Native.Nat.{ℕ, suc, ◌+◌, ◌-◌, ◌/◌, ◌%◌, ◌≤◌, ◌<◌, min}
 use Rattle.std.proofs.Common.{arith, add-one, sym, ◌∙◌, length-append, length-take, length-drop, take-suc, get_or-take, get_or-append-add, length-take-le, take_at, leb-true, leb-false, eqb-true}
 use Rattle.std.proofs.Math.Path.{◌≡◌, refl, ap}
-use Rattle.std.specs.Prelude.{Bool, true, false, ◌&&◌, take, drop, set}
+use Rattle.std.specs.Prelude.{Bool, true, false, ◌&&◌, take, drop, set, if◌then◌else◌}
 use mathlib.Core.List.{List, [], ◌∷◌, ◌++◌}
 use Rattle.std.proofs.Math.ListN.{length, replicate, get_or-append}
 use Rattle.std.proofs.Math.Seq.{take_all, append_snoc, take-append_seam}
 use Rattle.std.proofs.lemmas.List.{set_at, take-append-le}
 use Rattle.std.proofs.lemmas.Bool.{lt-leb}
-use Rattle.octets.specs.Words.{if◌then◌else◌, ◌atmost◌, ◌is◌}
+use Rattle.octets.specs.Words.{◌atmost◌, ◌is◌}
 use Rattle.octets.specs.Octets.{at, same}
 use Rattle.octets.specs.Texts.{text}
 use Rattle.words.specs.Text.{is_octets, hex_digits}

@@ -1,6 +1,6 @@
 -- What the functions look at on their way through an input: the octets before the first line feed, 16 octets at a time; what is held of a line.
-use Rattle.std.specs.Prelude.{ℕ, zero, suc, ◌+◌, ◌-◌, ◌≤◌, ◌≡◌, Bool, false, ◌||◌, List, [], ◌∷◌, ◌++◌, length, take, drop, replicate}
-use Rattle.octets.specs.Words.{if◌then◌else◌, ◌is◌}
+use Rattle.std.specs.Prelude.{ℕ, zero, suc, ◌+◌, ◌-◌, ◌≤◌, ◌≡◌, Bool, false, ◌||◌, List, [], ◌∷◌, ◌++◌, length, take, drop, replicate, if◌then◌else◌}
+use Rattle.octets.specs.Words.{◌is◌}
 use Rattle.capture.specs.declared.Held.{Held}
 
 -- how many octets stand before the first line feed, all where there is none

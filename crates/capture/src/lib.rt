@@ -1,8 +1,7 @@
 // A capture: its lines, wherever its octets are cut into reads, and the form of a line (docs/FORMATS.md, Captures).
 #![tactic(auto)]
 
-ghost use Rattle.std.specs.Prelude.{◌≡◌, [], ◌++◌, ◌+◌, ◌≤◌, min, length, drop};
-ghost use Rattle.octets.specs.Words.{if◌then◌else◌};
+ghost use Rattle.std.specs.Prelude.{◌≡◌, [], ◌++◌, ◌+◌, ◌≤◌, min, length, drop, if◌then◌else◌};
 ghost use Rattle.octets.specs.Octets.{at};
 ghost use Rattle.capture.specs.Capture.{form_of};
 ghost use Rattle.capture.specs.Steps.{feed_in, Along, Before, clipped, held_of, pending};

@@ -1,6 +1,6 @@
 -- 01, Port events: changing one feature's setting.
-use Rattle.std.specs.Prelude.{ℕ, List}
-use Rattle.octets.specs.Words.{if◌then◌else◌, ◌is◌}
+use Rattle.std.specs.Prelude.{ℕ, List, if◌then◌else◌}
+use Rattle.octets.specs.Words.{◌is◌}
 use Rattle.tlv.specs.declared.Refusal.TheVariants.{InvalidSetting, UnknownFeature}
 use Rattle.tlv.specs.Revisions.{has_applications}
 use Rattle.parameters.specs.declared.Feature.{Feature}

@@ -1,6 +1,6 @@
 -- 02, E12: "the place, from 0, of its first differing octet", for people: in which sub-TLV of a frame it lies, and at which octet of that.
-use Rattle.std.specs.Prelude.{ℕ, zero, suc, ◌+◌, ◌-◌, List, length}
-use Rattle.octets.specs.Words.{if◌then◌else◌, ◌below◌}
+use Rattle.std.specs.Prelude.{ℕ, zero, suc, ◌+◌, ◌-◌, List, length, if◌then◌else◌}
+use Rattle.octets.specs.Words.{◌below◌}
 use Rattle.tlv.specs.declared.Head.{Head}
 use Rattle.tlv.specs.declared.Head.TheVariants.{End, Past, SubTlv}
 use Rattle.tlv.specs.Layout.{head_at}

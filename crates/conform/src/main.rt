@@ -1,9 +1,10 @@
 // Judges what one end of a cable sent by what our rules write (docs/FORMATS.md, The verdict of `conform`).
 use conformance::Judging;
-use console::Lines;
 use console::arguments::Source;
+use console::{Lines, Reader};
 use judgement::Judged;
 use settings::Settings;
+use std::io::IsTerminal;
 
 // What was judged at the end of the input or behind the first frame that is not due; nothing where a read has failed.
 #[derive(Clone, Copy)]
@@ -13,8 +14,8 @@ struct Ended {
 }
 
 // Shows a terminal how far the reading is.
-fn show(terminal: bool, shown: u64, t: Judged) -> u64 {
-    console::streams::show(b"conform", terminal, shown, t.course.lines)
+fn show(rt: &HostRuntime, terminal: bool, shown: u64, t: Judged) -> u64 {
+    console::streams::show(rt, b"conform", terminal, shown, t.course.lines)
 }
 
 // Behind the first frame that is not due nothing is read.
@@ -24,8 +25,14 @@ fn is_over(t: Judged, open: bool) -> bool {
 
 // Feeds the rest of the input, read by read, up to the first frame that is not due. A proved loop ends: it counts its turns down,
 // from a number that no run uses up.
-fn feed_all(input: &mut [u8], start: Judging, first: Lines) -> Ended {
-    let terminal = libc::isatty(libc::STDERR_FILENO) == 1;
+fn feed_all(
+    rt: &HostRuntime,
+    from: &mut Reader,
+    input: &mut [u8],
+    start: Judging,
+    first: Lines,
+) -> Ended {
+    let terminal = rt.stderr().is_terminal();
     let mut r = start;
     let mut lines = first;
     let mut shown: u64 = 0;
@@ -33,13 +40,13 @@ fn feed_all(input: &mut [u8], start: Judging, first: Lines) -> Ended {
     while 0 < turns {
         turns -= 1;
         r = conformance::feed(r, console::rest(input, lines));
-        shown = show(terminal, shown, r.judged);
+        shown = show(rt, terminal, shown, r.judged);
         if is_over(r.judged, lines.open) {
             break;
         }
-        lines = console::more(input, console::pass_rest(lines));
+        lines = console::more(from, input, console::pass_rest(lines));
     }
-    console::streams::clear(shown);
+    console::streams::clear(rt, shown);
     Ended {
         judged: conformance::finish(r),
         failed: lines.failed,
@@ -56,43 +63,47 @@ fn tell(t: Judged, out: &mut [u8]) -> usize {
 }
 
 // Creates the port, judges the capture, and tells the verdict.
-fn run(input: &mut [u8], output: &mut [u8], s: Settings, alone: bool) {
+fn run(
+    rt: &HostRuntime,
+    from: &mut Reader,
+    input: &mut [u8],
+    output: &mut [u8],
+    s: Settings,
+    alone: bool,
+) {
     let start = conformance::start(settings::port_with(s));
-    let ended = feed_all(
-        input,
-        start,
-        console::streams::behind_settings(s.lines, alone),
-    );
+    let first = console::streams::behind_settings(from, s.lines, alone);
+    let ended = feed_all(rt, from, input, start, first);
     if ended.failed {
-        console::streams::cannot_read(b"conform");
+        console::streams::cannot_read(rt, b"conform");
         return;
     }
     let n = tell(ended.judged, output);
-    console::streams::write(b"conform", octets::first(output, n));
+    console::streams::write(rt, b"conform", octets::first(output, n));
 }
 
-// Reads the settings from a descriptor, and if nothing is wrong with them judges the capture.
-fn serve(input: &mut [u8], output: &mut [u8], fd: i32, alone: bool) {
-    let s = settings::read_single(input, output, console::start(fd), alone);
+// Reads the settings, and if nothing is wrong with them judges the capture.
+fn serve(rt: &HostRuntime, from: &mut Reader, input: &mut [u8], output: &mut [u8], alone: bool) {
+    let s = settings::read_single(from, input, output, console::start(), alone);
     if s.good {
-        run(input, output, s.end, alone);
+        run(rt, from, input, output, s.end, alone);
         return;
     }
     if !alone & (s.at == 0) {
-        console::streams::cannot_read(b"conform");
+        console::streams::cannot_read(rt, b"conform");
         return;
     }
-    console::streams::refuse(b"conform", output, s.at);
+    console::streams::refuse(rt, b"conform", output, s.at);
 }
 
 // Says that the settings cannot be had.
-fn refuse_unopened(output: &mut [u8], file: &[u8]) {
+fn refuse_unopened(rt: &HostRuntime, output: &mut [u8], file: &[u8]) {
     let at = report::answers::unopened(output, 0, file);
-    console::streams::refuse(b"conform", output, at);
+    console::streams::refuse(rt, b"conform", output, at);
 }
 
 // Writes the usage, to standard output where help was asked for, and otherwise to standard error.
-fn usage(asked: bool) {
+fn usage(rt: &HostRuntime, asked: bool) {
     let text = b"usage: conform [FILE] < CAPTURE
 
 Tells whether all that one end sent is what our rules write at that point. In
@@ -113,19 +124,25 @@ A fe37001b2102020a00000000000200000001041100008000000100003232000000000000020606
 
 docs/FORMATS.md describes the settings, the capture and the verdict.
 ";
-    console::streams::usage(b"conform", text, asked);
+    console::streams::usage(rt, b"conform", text, asked);
 }
 
-fn main() {
-    let mut name = io::buffer();
-    let mut input = io::large_buffer();
-    let mut output = io::large_buffer();
-    let source = console::arguments::asked(&mut name);
+fn main(rt: HostRuntime) {
+    let mut name = [0; 4096];
+    let mut input = [0; 65536];
+    let mut output = [0; 65536];
+    let source = console::arguments::asked(&rt, &mut name);
     match source {
-        Source::Input => serve(&mut input, &mut output, libc::STDIN_FILENO, false),
-        Source::File(fd) => serve(&mut input, &mut output, fd, true),
-        Source::Unopened(n) => refuse_unopened(&mut output, octets::first(&name, n)),
-        Source::Help => usage(true),
-        Source::Unknown => usage(false),
+        Source::Input => {
+            let mut from = Reader::of_standard(rt.stdin());
+            serve(&rt, &mut from, &mut input, &mut output, false);
+        }
+        Source::File(file) => {
+            let mut from = Reader::of_file(file, rt.stdin());
+            serve(&rt, &mut from, &mut input, &mut output, true);
+        }
+        Source::Unopened(n) => refuse_unopened(&rt, &mut output, octets::first(&name, n)),
+        Source::Help => usage(&rt, true),
+        Source::Unknown => usage(&rt, false),
     }
 }

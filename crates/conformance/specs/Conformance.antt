@@ -1,7 +1,6 @@
 -- 02, E12: "Given one end's settings and its capture from creation on, with every frame it sent or was given, decide whether all it sent is what
 -- our rules write at that point." Document 01's port, folded over the lines, and the verdict.
-use Rattle.std.specs.Prelude.{ℕ, suc, ◌+◌, Bool, false, not, List, [], ◌∷◌}
-use Rattle.octets.specs.Words.{if◌then◌else◌}
+use Rattle.std.specs.Prelude.{ℕ, suc, ◌+◌, Bool, false, not, List, [], ◌∷◌, if◌then◌else◌}
 use Rattle.port.specs.declared.Port.{Port}
 use Rattle.port.specs.Replies.{bit}
 use Rattle.comparison.specs.Comparison.{is_due, place_in}

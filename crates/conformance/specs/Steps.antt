@@ -1,7 +1,6 @@
 -- What the functions do, on the values that they hold: octets as they come, and the verdict. What this comes to over a whole capture is
 -- Conformance: see Verdicts.
-use Rattle.std.specs.Prelude.{ℕ, List, []}
-use Rattle.octets.specs.Words.{if◌then◌else◌}
+use Rattle.std.specs.Prelude.{ℕ, List, [], if◌then◌else◌}
 use Rattle.port.specs.declared.Port.{Port}
 use Rattle.capture.specs.declared.Held.{Held}
 use Rattle.capture.specs.Steps.{held_of, pending}

@@ -1,6 +1,6 @@
 -- docs/FORMATS.md, The verdict of `conform`: where its line (ruling/Ruling) stands.
-use Rattle.std.specs.Prelude.{ℕ, ◌≡◌, List, ◌++◌, length, drop}
-use Rattle.octets.specs.Words.{if◌then◌else◌, ◌below◌}
+use Rattle.std.specs.Prelude.{ℕ, ◌≡◌, List, ◌++◌, length, drop, if◌then◌else◌}
+use Rattle.octets.specs.Words.{◌below◌}
 use Rattle.judgement.specs.declared.Judged.{Judged}
 use Rattle.ruling.specs.Ruling.{verdict_text}
 use Rattle.conformance.specs.Steps.{verdict_of}

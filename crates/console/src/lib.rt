@@ -1,15 +1,21 @@
 // Where a program's input comes from, its lines, and what programs write. The caller lends the buffer.
-ghost use Rattle.std.specs.Prelude.{◌≡◌, ◌+◌, ◌-◌, ◌≤◌, length};
+#![tactic(auto)]
+
+ghost use Rattle.std.specs.Prelude.{◌≡◌, ◌+◌, ◌-◌, ◌≤◌, IfOk, length};
 
 pub mod arguments;
 pub mod streams;
+
+use std::fs::File;
+use std::io;
+use std::io::{ErrorKind, Read, Stdin};
 
 // What is kept of a line that fills the whole buffer: enough to see that it cannot be read, or is a comment.
 const KEPT: usize = 4096;
 
 // Where the reading stands: the buffer holds octets up to `end`, those before `next` are done with, and the line that was
 // found last stands from `from` to `to`. `number` counts the lines. No more is read where `open` is false: the input is at its
-// end, or a read of its descriptor `fd` has failed.
+// end, or a read has failed.
 #[derive(Clone, Copy)]
 pub struct Lines {
     pub number: u64,
@@ -20,11 +26,48 @@ pub struct Lines {
     pub end: usize,
     pub open: bool,
     pub failed: bool,
-    pub fd: i32,
+}
+
+// What is read: a file that was opened, or where there is none, standard input.
+#[derive(Drop)]
+pub struct Reader {
+    file: Option<File>,
+    standard: Stdin,
+}
+
+impl Reader {
+    pub fn of_standard(standard: Stdin) -> Reader {
+        Reader {
+            file: None,
+            standard: standard,
+        }
+    }
+
+    pub fn of_file(file: File, standard: Stdin) -> Reader {
+        Reader {
+            file: Some(file),
+            standard: standard,
+        }
+    }
+
+    // Closes the file: from here on standard input is read.
+    pub fn leave_file(&mut self) {
+        self.file = None;
+    }
+
+    // Reads once.
+    fn read(&mut self, buffer: &mut [u8]) -> io::Result<usize>
+        ensures { IfOk result (λ n. n ≤ length buffer.new) }
+    {
+        match &mut self.file {
+            Some(file) => file.read(buffer),
+            None => self.standard.read(buffer),
+        }
+    }
 }
 
 // Nothing is read yet.
-pub fn start(fd: i32) -> Lines {
+pub fn start() -> Lines {
     Lines {
         number: 0,
         found: false,
@@ -34,7 +77,6 @@ pub fn start(fd: i32) -> Lines {
         end: 0,
         open: true,
         failed: false,
-        fd: fd,
     }
 }
 
@@ -77,7 +119,6 @@ pub fn seek(buffer: &[u8], l: Lines) -> Lines {
             end: l.end,
             open: l.open,
             failed: l.failed,
-            fd: l.fd,
         };
     }
     if l.open | l.failed {
@@ -95,7 +136,6 @@ pub fn seek(buffer: &[u8], l: Lines) -> Lines {
         end: l.end,
         open: false,
         failed: false,
-        fd: l.fd,
     }
 }
 
@@ -113,7 +153,6 @@ pub fn put_back(l: Lines) -> Lines {
         end: l.end,
         open: l.open,
         failed: l.failed,
-        fd: l.fd,
     }
 }
 
@@ -138,19 +177,13 @@ fn shift(buffer: &mut [u8], next: usize, n: usize) {
 }
 
 // What is left of the buffer behind `kept` octets is filled by one read, whose answer is given.
-fn read_behind(fd: i32, buffer: &mut [u8], kept: usize) -> isize {
+fn read_behind(from: &mut Reader, buffer: &mut [u8], kept: usize) -> io::Result<usize>
+    ensures { IfOk result (λ n. n ≤ length buffer.new) }
+{
     if kept < buffer.len() {
-        return libc::read(fd, &mut buffer[kept..]);
+        return from.read(&mut buffer[kept..]);
     }
-    0
-}
-
-// Whether a signal interrupted a read before it gave anything.
-fn is_interrupted(got: isize) -> bool {
-    if 0 <= got {
-        return false;
-    }
-    os::errno() == libc::EINTR
+    Ok(0)
 }
 
 // How many octets are kept: all that are held, but of a line that fills the buffer only its front.
@@ -166,29 +199,37 @@ fn kept(n: usize, room: usize) -> usize
     n
 }
 
-// Reads once more. A read that gives nothing is the end of the input, one that a signal interrupts is tried again.
-pub fn more(buffer: &mut [u8], l: Lines) -> Lines {
-    let n = held(buffer, l.next, l.end).len();
-    shift(buffer, l.next, n);
-    let old = kept(n, buffer.len());
-    let got = read_behind(l.fd, buffer, old);
-    let again = is_interrupted(got);
+// Where the reading stands behind a read: all octets up to `end` are to be looked at.
+fn behind_read(number: u64, end: usize, open: bool, failed: bool) -> Lines {
     Lines {
-        number: l.number,
+        number: number,
         found: false,
         from: 0,
         to: 0,
         next: 0,
-        end: old + io::count(got, buffer),
-        open: (0 < got) | again,
-        failed: (got < 0) & !again,
-        fd: l.fd,
+        end: end,
+        open: open,
+        failed: failed,
+    }
+}
+
+// Reads once more. A read that gives nothing is the end of the input, one that a signal interrupts is tried again.
+pub fn more(from: &mut Reader, buffer: &mut [u8], l: Lines) -> Lines {
+    let n = held(buffer, l.next, l.end).len();
+    shift(buffer, l.next, n);
+    let old = kept(n, buffer.len());
+    match read_behind(from, buffer, old) {
+        Ok(got) => behind_read(l.number, old + got, 0 < got, false),
+        Err(e) => {
+            let again = e.kind() == ErrorKind::Interrupted;
+            behind_read(l.number, old, again, !again)
+        }
     }
 }
 
 // Reads until a line is found or the input is over. A proved loop ends: it counts its turns down, from a number that no run
 // uses up.
-pub fn fetch(buffer: &mut [u8], l: Lines) -> Lines {
+pub fn fetch(from: &mut Reader, buffer: &mut [u8], l: Lines) -> Lines {
     let mut now = l;
     let mut turns = u64::MAX;
     while 0 < turns {
@@ -199,18 +240,18 @@ pub fn fetch(buffer: &mut [u8], l: Lines) -> Lines {
         if !now.open {
             return now;
         }
-        now = more(buffer, now);
+        now = more(from, buffer, now);
         turns -= 1;
     }
     now
 }
 
 // The next line that is not passed over.
-pub fn next_line(buffer: &mut [u8], l: Lines) -> Lines {
+pub fn next_line(from: &mut Reader, buffer: &mut [u8], l: Lines) -> Lines {
     let mut now = l;
     let mut turns = u64::MAX;
     while 0 < turns {
-        now = fetch(buffer, now);
+        now = fetch(from, buffer, now);
         if !now.found {
             return now;
         }

@@ -1,6 +1,6 @@
 -- 01, TLV layout: the sub-TLVs of a frame noted by their types, the control that is kept of them, and refusals 6 to 8.
-use Rattle.std.specs.Prelude.{ℕ, ◌+◌, ◌-◌, min, Bool, not, ◌||◌, List, length, take, drop}
-use Rattle.octets.specs.Words.{if◌then◌else◌, ◌below◌, ◌is◌}
+use Rattle.std.specs.Prelude.{ℕ, ◌+◌, ◌-◌, min, Bool, not, ◌||◌, List, length, take, drop, if◌then◌else◌}
+use Rattle.octets.specs.Words.{◌below◌, ◌is◌}
 use Rattle.octets.specs.Octets.{at, number4}
 use Rattle.tlv.specs.declared.Refusal.TheVariants.{NoControl, ControlLength, ControlVersion}
 use Rattle.contents.specs.declared.Found.{Found}

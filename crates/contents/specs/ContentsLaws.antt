@@ -1,10 +1,10 @@
 -- Laws of the definitions of Contents, one for each answer of the code. Assumes nothing.
 use Prim.Native.Nat.{ℕ, ◌+◌, ◌-◌, ◌<◌, ◌≤◌, ◌^◌, min}
-use Rattle.std.specs.Prelude.{◌≡◌, Bool, true, false, not, List, length, take, drop}
+use Rattle.std.specs.Prelude.{◌≡◌, Bool, true, false, not, List, length, take, drop, if◌then◌else◌}
 use Rattle.std.proofs.Math.Path.{sym}
 use native.Mathlib.Omega.{arith}
 use borrow.Author.Tests.{lt-ltb, le-ltb, eq-eqb, ne_eqb}
-use Rattle.octets.specs.Words.{if◌then◌else◌, ◌is◌}
+use Rattle.octets.specs.Words.{◌is◌}
 use Rattle.octets.specs.Octets.{at, number4}
 use Rattle.tlv.specs.declared.Refusal.TheVariants.{NoControl, ControlLength, ControlVersion}
 use Rattle.contents.specs.declared.Found.{Found}

@@ -1,7 +1,7 @@
 -- What is counted of a line, on the values that the functions hold: refusals, reasons that became others, and frames up to the moment when both
 -- ends are settled. What this comes to over a whole capture is Replay: see Replayed.
-use Rattle.std.specs.Prelude.{ℕ, ◌-◌, Bool, true, ◌&&◌, List, set, replicate}
-use Rattle.octets.specs.Words.{if◌then◌else◌, ◌below◌, ◌is◌}
+use Rattle.std.specs.Prelude.{ℕ, ◌-◌, Bool, true, ◌&&◌, List, set, replicate, if◌then◌else◌}
+use Rattle.octets.specs.Words.{◌below◌, ◌is◌}
 use Rattle.octets.specs.Octets.{at}
 use Rattle.feature.specs.declared.State.{State}
 use Rattle.feature.specs.Reasons.{reason_number}

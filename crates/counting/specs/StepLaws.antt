@@ -1,9 +1,9 @@
 -- A line, and lines as they end in a read: what the functions promise, and a law for each way out of them, with premises in the form in
 -- which tests and calls leave them. Assumes nothing.
-use Rattle.std.specs.Prelude.{ℕ, ◌+◌, ◌≤◌, ◌<◌, ◌≡◌, refl, Bool, List, length, take, drop}
+use Rattle.std.specs.Prelude.{ℕ, ◌+◌, ◌≤◌, ◌<◌, ◌≡◌, refl, Bool, List, length, take, drop, if◌then◌else◌}
 use Rattle.std.proofs.Common.{ap, ◌∙◌}
 use Rattle.std.proofs.Math.Seq.{take-append_seam}
-use Rattle.octets.specs.Words.{if◌then◌else◌, ◌is◌}
+use Rattle.octets.specs.Words.{◌is◌}
 use Rattle.port.specs.declared.Port.{Port}
 use Rattle.port.specs.declared.Event.{Event}
 use Rattle.port.specs.Replies.{event_reply}

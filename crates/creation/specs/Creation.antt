@@ -1,6 +1,5 @@
 -- 01, Port events: creation; and what stands where no port has been made.
-use Rattle.std.specs.Prelude.{ℕ, Bool, true, false, List, [], ◌∷◌}
-use Rattle.octets.specs.Words.{if◌then◌else◌}
+use Rattle.std.specs.Prelude.{ℕ, Bool, true, false, List, [], ◌∷◌, if◌then◌else◌}
 use Rattle.tlv.specs.declared.Refusal.TheVariants.{InvalidSetting}
 use Rattle.tlv.specs.declared.Revision.{Revision}
 use Rattle.tlv.specs.declared.Revision.TheVariants.{Rev101}

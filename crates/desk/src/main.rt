@@ -1,14 +1,14 @@
 // The desk: the settings of one to four ports, then events, one a line, each answered before the next is read (docs/FORMATS.md).
-use console::Lines;
 use console::arguments::Source;
+use console::{Lines, Reader};
 use recorder::Recorder;
 
 // What an answer may take of the output; the longest, of `show`, is shorter.
 const ROOM: usize = 16384;
 
 // Writes out what stands before `at`.
-fn flush(output: &[u8], at: usize) -> bool {
-    console::streams::write(b"desk", octets::first(output, at))
+fn flush(rt: &HostRuntime, output: &[u8], at: usize) -> bool {
+    console::streams::write(rt, b"desk", octets::first(output, at))
 }
 
 // The line that was found, and where its answer goes.
@@ -27,7 +27,7 @@ fn is_full(all: usize, at: usize) -> bool {
 }
 
 // The place of an answer: at the front again, once the output is full. What cannot be written ends the lines.
-fn placed(output: &[u8], l: Lines, at: usize) -> Place {
+fn placed(rt: &HostRuntime, output: &[u8], l: Lines, at: usize) -> Place {
     let mut lines = l;
     if !is_full(output.len(), at) {
         return Place {
@@ -35,7 +35,7 @@ fn placed(output: &[u8], l: Lines, at: usize) -> Place {
             at: at,
         };
     }
-    lines.found = flush(output, at);
+    lines.found = flush(rt, output, at);
     Place {
         lines: lines,
         at: 0,
@@ -43,25 +43,39 @@ fn placed(output: &[u8], l: Lines, at: usize) -> Place {
 }
 
 // Reads on until a line is found. The output is written out before each read.
-fn read_on(input: &mut [u8], output: &[u8], l: Lines, at: usize) -> Lines {
-    if !flush(output, at) {
+fn read_on(
+    rt: &HostRuntime,
+    from: &mut Reader,
+    input: &mut [u8],
+    output: &[u8],
+    l: Lines,
+    at: usize,
+) -> Lines {
+    if !flush(rt, output, at) {
         return l;
     }
-    let lines = console::fetch(input, l);
+    let lines = console::fetch(from, input, l);
     if lines.failed {
-        console::streams::cannot_read(b"desk");
+        console::streams::cannot_read(rt, b"desk");
     }
     lines
 }
 
 // The next line, if there is one.
-fn next(input: &mut [u8], output: &[u8], l: Lines, at: usize) -> Place {
+fn next(
+    rt: &HostRuntime,
+    from: &mut Reader,
+    input: &mut [u8],
+    output: &[u8],
+    l: Lines,
+    at: usize,
+) -> Place {
     let lines = console::seek(input, l);
     if lines.found {
-        return placed(output, lines, at);
+        return placed(rt, output, lines, at);
     }
     Place {
-        lines: read_on(input, output, lines, at),
+        lines: read_on(rt, from, input, output, lines, at),
         at: 0,
     }
 }
@@ -70,14 +84,22 @@ fn next(input: &mut [u8], output: &[u8], l: Lines, at: usize) -> Place {
 // it is: of an event only the port at hand moves, and the log. A frame, as most lines are, goes its own way: where it repeats what
 // is held of the peer the control alone moves, and the log moves only where a notice was raised. A proved loop ends: it counts its
 // turns down, from a number that no run uses up.
-fn run(input: &mut [u8], output: &mut [u8], start: Recorder, first: Lines, behind: usize) {
+fn run(
+    rt: &HostRuntime,
+    from: &mut Reader,
+    input: &mut [u8],
+    output: &mut [u8],
+    start: Recorder,
+    first: Lines,
+    behind: usize,
+) {
     let mut held = start;
     let mut lines = first;
     let mut at = behind;
     let mut turns = u64::MAX;
     while 0 < turns {
         turns -= 1;
-        let p = next(input, output, lines, at);
+        let p = next(rt, from, input, output, lines, at);
         lines = p.lines;
         if !lines.found {
             return;
@@ -123,35 +145,30 @@ fn run(input: &mut [u8], output: &mut [u8], start: Recorder, first: Lines, behin
     }
 }
 
-// Reads the settings from a descriptor, and if nothing is wrong with them runs the events.
-fn serve(input: &mut [u8], output: &mut [u8], fd: i32, alone: bool) {
-    let s = settings::read_recorder(input, output, console::start(fd), alone);
+// Reads the settings, and if nothing is wrong with them runs the events.
+fn serve(rt: &HostRuntime, from: &mut Reader, input: &mut [u8], output: &mut [u8], alone: bool) {
+    let s = settings::read_recorder(from, input, output, console::start(), alone);
     let lines = s.lines;
     if lines.failed {
-        console::streams::cannot_read(b"desk");
+        console::streams::cannot_read(rt, b"desk");
         return;
     }
     if !s.good {
-        flush(output, s.at);
+        flush(rt, output, s.at);
         return;
     }
-    run(
-        input,
-        output,
-        s.recorder,
-        console::streams::behind_settings(lines, alone),
-        s.at,
-    );
+    let first = console::streams::behind_settings(from, lines, alone);
+    run(rt, from, input, output, s.recorder, first, s.at);
 }
 
 // Writes that the settings cannot be had.
-fn report_unopened(output: &mut [u8], file: &[u8]) {
+fn report_unopened(rt: &HostRuntime, output: &mut [u8], file: &[u8]) {
     let at = report::answers::unopened(output, 0, file);
-    flush(output, at);
+    flush(rt, output, at);
 }
 
 // Writes the usage, to standard output where help was asked for, and otherwise to standard error.
-fn usage(asked: bool) {
+fn usage(rt: &HostRuntime, asked: bool) {
     let text = b"usage: desk [FILE]
 
 Runs a recorder of one to four ports: first their settings, then events, one a
@@ -174,19 +191,25 @@ show
 
 docs/FORMATS.md describes all lines and answers.
 ";
-    console::streams::usage(b"desk", text, asked);
+    console::streams::usage(rt, b"desk", text, asked);
 }
 
-fn main() {
-    let mut name = io::buffer();
-    let mut input = io::large_buffer();
-    let mut output = io::large_buffer();
-    let source = console::arguments::asked(&mut name);
+fn main(rt: HostRuntime) {
+    let mut name = [0; 4096];
+    let mut input = [0; 65536];
+    let mut output = [0; 65536];
+    let source = console::arguments::asked(&rt, &mut name);
     match source {
-        Source::Input => serve(&mut input, &mut output, libc::STDIN_FILENO, false),
-        Source::File(fd) => serve(&mut input, &mut output, fd, true),
-        Source::Unopened(n) => report_unopened(&mut output, octets::first(&name, n)),
-        Source::Help => usage(true),
-        Source::Unknown => usage(false),
+        Source::Input => {
+            let mut from = Reader::of_standard(rt.stdin());
+            serve(&rt, &mut from, &mut input, &mut output, false);
+        }
+        Source::File(file) => {
+            let mut from = Reader::of_file(file, rt.stdin());
+            serve(&rt, &mut from, &mut input, &mut output, true);
+        }
+        Source::Unopened(n) => report_unopened(&rt, &mut output, octets::first(&name, n)),
+        Source::Help => usage(&rt, true),
+        Source::Unknown => usage(&rt, false),
     }
 }

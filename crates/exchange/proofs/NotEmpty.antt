@@ -5,7 +5,8 @@ use mathlib.Core.Bool.{Bool, true, not}
 use mathlib.Core.List.{List, []}
 use lib.ListN.{length, replicate, length-replicate}
 use borrow.Author.Tests.{le-ltb}
-use Rattle.octets.specs.Words.{if◌then◌else◌, ◌below◌}
+use Rattle.std.specs.Prelude.{if◌then◌else◌}
+use Rattle.octets.specs.Words.{◌below◌}
 use Rattle.tlv.specs.declared.Refusal.TheVariants as refusal
 use Rattle.port.specs.declared.Port.{Port}
 use Rattle.port.specs.declared.Written.{Written}

@@ -5,7 +5,7 @@ use native.Mathlib.Omega.{arith}
 use mathlib.Core.Path.{◌≡◌, refl, sym, ap, ◌∙◌}
 use mathlib.Core.Bool.{Bool, true, false, not, beq, false≢true}
 use mathlib.Core.List.{List, []}
-use Rattle.octets.specs.Words.{if◌then◌else◌}
+use Rattle.std.specs.Prelude.{if◌then◌else◌}
 use Rattle.tlv.specs.declared.Refusal.TheVariants.{NotRunning}
 use Rattle.tlv.specs.Refusals.{refusal_number}
 use Rattle.tlv.specs.Revisions.{has_applications}

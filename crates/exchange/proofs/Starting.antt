@@ -5,7 +5,7 @@ use mathlib.Core.Path.{◌≡◌, refl, ◌∙◌}
 use mathlib.Core.Bool.{Bool, true, false}
 use mathlib.Core.List.{List}
 use lib.ListN.{length}
-use Rattle.octets.specs.Words.{if◌then◌else◌}
+use Rattle.std.specs.Prelude.{if◌then◌else◌}
 use Rattle.tlv.specs.declared.Refusal.TheVariants.{InvalidSetting, NoPort}
 use Rattle.tlv.specs.Refusals.{refusal_number}
 use Rattle.parameters.specs.declared.Feature.{Feature}

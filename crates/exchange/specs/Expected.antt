@@ -1,6 +1,5 @@
 -- 01, Rounds of two ends: the outcome rules of two settings alone.
-use Rattle.std.specs.Prelude.{ℕ, Bool, false, [], ◌∷◌}
-use Rattle.octets.specs.Words.{if◌then◌else◌}
+use Rattle.std.specs.Prelude.{ℕ, Bool, false, [], ◌∷◌, if◌then◌else◌}
 use Rattle.parameters.specs.declared.Feature.{Feature}
 use Rattle.parameters.specs.Parameters.{content}
 use Rattle.feature.specs.declared.Setting.{Setting}

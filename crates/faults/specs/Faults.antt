@@ -1,8 +1,8 @@
 -- 01, Refusal numbers, 9: "local setting invalid". Why it is: the first rule that fails, with the numbers that say so. The order is that of document
 -- 01's rules; a foreign entry comes before entries are counted, since 02, E3, skips such entries "before duplicates are sought, the limit of 16
 -- counted".
-use Rattle.std.specs.Prelude.{ℕ, zero, suc, ◌+◌, ◌%◌, Bool, not, List, length}
-use Rattle.octets.specs.Words.{if◌then◌else◌, ◌below◌, ◌atmost◌, ◌is◌}
+use Rattle.std.specs.Prelude.{ℕ, zero, suc, ◌+◌, ◌%◌, Bool, not, List, length, if◌then◌else◌}
+use Rattle.octets.specs.Words.{◌below◌, ◌atmost◌, ◌is◌}
 use Rattle.parameters.specs.declared.Feature.{Feature}
 use Rattle.parameters.specs.declared.Feature.TheVariants.{Groups, Flow, Applications}
 use Rattle.parameters.specs.Parameters.{group_of, percentages, groups_number, good_group, sum, mask, flow_number, ones, entry_count, selector_of, same_name, new_name, is_ours}

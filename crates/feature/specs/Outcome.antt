@@ -1,7 +1,7 @@
 -- 01, Outcome rules for one feature: once for all three.
-use Rattle.std.specs.Prelude.{ℕ, ◌%◌, min, Bool, true, false, not, ◌&&◌, ◌||◌, List, length, drop}
+use Rattle.std.specs.Prelude.{ℕ, ◌%◌, min, Bool, true, false, not, ◌&&◌, ◌||◌, List, length, drop, if◌then◌else◌}
 use Rattle.std.specs.Bool.{beq}
-use Rattle.octets.specs.Words.{if◌then◌else◌, ◌below◌, ◌atmost◌, ◌is◌}
+use Rattle.octets.specs.Words.{◌below◌, ◌atmost◌, ◌is◌}
 use Rattle.octets.specs.Octets.{at}
 use Rattle.parameters.specs.declared.Feature.{Feature}
 use Rattle.feature.specs.declared.Reason.{Reason}

@@ -1,7 +1,6 @@
 -- Outcome rules 6 to 9 over their three tests: both enabled, willing equal, compatible; and whether the own end is willing. Assumes nothing.
-use Rattle.std.specs.Prelude.{ℕ, ◌≡◌, refl, Bool, true, false, not, ◌&&◌}
+use Rattle.std.specs.Prelude.{ℕ, ◌≡◌, refl, Bool, true, false, not, ◌&&◌, if◌then◌else◌}
 use Rattle.std.specs.Bool.{beq}
-use Rattle.octets.specs.Words.{if◌then◌else◌}
 use Rattle.parameters.specs.declared.Feature.{Feature}
 use Rattle.parameters.specs.Parameters.{compatible, content}
 use Rattle.feature.specs.declared.Setting.{Setting}

@@ -1,7 +1,6 @@
 -- 01, Port events: flags and peer gone.
-use Rattle.std.specs.Prelude.{Bool, not}
+use Rattle.std.specs.Prelude.{Bool, not, if◌then◌else◌}
 use Rattle.std.specs.Bool.{beq}
-use Rattle.octets.specs.Words.{if◌then◌else◌}
 use Rattle.tlv.specs.declared.Refusal.TheVariants.{NotRunning}
 use Rattle.notices.specs.declared.Kind.TheVariants as kind
 use Rattle.notices.specs.declared.Notice.{Notice}

@@ -1,6 +1,6 @@
 -- 01, Handling a frame: steps 1 to 5. What steps 1 to 3 do to the control, and what a frame that is refused does, is in admission/Admission.
-use Rattle.std.specs.Prelude.{ℕ, not, List}
-use Rattle.octets.specs.Words.{if◌then◌else◌, ◌below◌, ◌is◌}
+use Rattle.std.specs.Prelude.{ℕ, not, List, if◌then◌else◌}
+use Rattle.octets.specs.Words.{◌below◌, ◌is◌}
 use Rattle.tlv.specs.declared.Refusal.TheVariants as refusal
 use Rattle.contents.specs.declared.Contents.{Contents}
 use Rattle.contents.specs.declared.Reading.{Reading}

@@ -9,7 +9,8 @@ use lib.ListN.{length, take, drop, length-take, get_or-eq_default}
 use lib.Seq.{get_or-take, get_or-drop}
 use lib.Dec.{lit<}
 use borrow.Author.Tests.{ltb-true, ltb-false}
-use Rattle.octets.specs.Words.{if◌then◌else◌, ◌below◌, ◌is◌}
+use Rattle.std.specs.Prelude.{if◌then◌else◌}
+use Rattle.octets.specs.Words.{◌below◌, ◌is◌}
 use Rattle.octets.specs.Octets.{at, number4}
 use Rattle.octets.specs.Laws.{and_left}
 use Rattle.contents.specs.declared.Contents.{Contents}

@@ -6,7 +6,8 @@ use mathlib.Core.Logic.{◌⊎◌, inl, inr}
 use mathlib.Core.Bool.{Bool, true, false, not, ◌&&◌, ◌||◌, beq, false≢true}
 use mathlib.Core.List.{List}
 use borrow.Author.Tests.{not-false, eq-eqb, eqb-true}
-use Rattle.octets.specs.Words.{if◌then◌else◌, ◌below◌, ◌is◌}
+use Rattle.std.specs.Prelude.{if◌then◌else◌}
+use Rattle.octets.specs.Words.{◌below◌, ◌is◌}
 use Rattle.octets.specs.Octets.{same}
 use Rattle.octets.specs.Laws.{and_right, same_is}
 use Rattle.contents.specs.declared.Contents.{Contents}

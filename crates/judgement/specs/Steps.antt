@@ -1,7 +1,6 @@
 -- What the functions do with a line, on the values that they hold: at a port, and what is counted. What this comes to over a whole capture is
 -- Conformance: see Verdicts.
-use Rattle.std.specs.Prelude.{ℕ, true, false, List, length, replicate}
-use Rattle.octets.specs.Words.{if◌then◌else◌}
+use Rattle.std.specs.Prelude.{ℕ, true, false, List, length, replicate, if◌then◌else◌}
 use Rattle.port.specs.declared.Port.{Port}
 use Rattle.recorder.specs.declared.Change.TheVariants.{Frame}
 use Rattle.recorder.specs.Recorder.{happens}

@@ -1,6 +1,6 @@
 -- docs/FORMATS.md: what a line of settings or of events gives, and the words that both have.
-use Rattle.std.specs.Prelude.{ℕ, ◌+◌, ◌-◌, Bool, List, [], length, drop}
-use Rattle.octets.specs.Words.{if◌then◌else◌, ◌is◌}
+use Rattle.std.specs.Prelude.{ℕ, ◌+◌, ◌-◌, Bool, List, [], length, drop, if◌then◌else◌}
+use Rattle.octets.specs.Words.{◌is◌}
 use Rattle.octets.specs.Octets.{at}
 use Rattle.grammar.specs.declared.Field.TheVariants.{End}
 use Rattle.grammar.specs.declared.Form.{Form}

@@ -1,7 +1,6 @@
 -- 01, Port events and Handling a frame: one feature's state, what it writes, and its settings.
-use Rattle.std.specs.Prelude.{ℕ, ◌+◌, ◌%◌, ◌^◌, Bool, true, false, not, ◌&&◌, List, [], ◌∷◌}
+use Rattle.std.specs.Prelude.{ℕ, ◌+◌, ◌%◌, ◌^◌, Bool, true, false, not, ◌&&◌, List, [], ◌∷◌, if◌then◌else◌}
 use Rattle.std.specs.Bool.{beq}
-use Rattle.octets.specs.Words.{if◌then◌else◌}
 use Rattle.octets.specs.Octets.{headed, same}
 use Rattle.parameters.specs.declared.Feature.{Feature}
 use Rattle.feature.specs.declared.Reason.TheVariants.{NoPeerYet, NotAdvertised}

@@ -1,9 +1,8 @@
 // The state machine of a feature: its fresh state, its setting, what it releases and writes, and step 5 of handling.
 #![tactic(auto)]
 
-ghost use Rattle.std.specs.Prelude.{◌≡◌, ◌+◌, ◌*◌, ◌≤◌, true, [], ◌∷◌, length};
+ghost use Rattle.std.specs.Prelude.{◌≡◌, ◌+◌, ◌*◌, ◌≤◌, true, [], ◌∷◌, length, if◌then◌else◌};
 ghost use Rattle.std.proofs.lemmas.List.Edits.{sets};
-ghost use Rattle.octets.specs.Words.{if◌then◌else◌};
 ghost use Rattle.octets.specs.Octets.{same};
 ghost use Rattle.parameters.specs.Parameters.{content};
 ghost use Rattle.feature.specs.Outcome.{judged};

@@ -1,6 +1,6 @@
 -- Numbers as programs count and write them: 64 bits, in decimal.
-use Rattle.std.specs.Prelude.{ℕ, zero, suc, ◌+◌, ◌/◌, ◌%◌, min, List, [], ◌∷◌, ◌++◌}
-use Rattle.octets.specs.Words.{if◌then◌else◌, ◌below◌}
+use Rattle.std.specs.Prelude.{ℕ, zero, suc, ◌+◌, ◌/◌, ◌%◌, min, List, [], ◌∷◌, ◌++◌, if◌then◌else◌}
+use Rattle.octets.specs.Words.{◌below◌}
 
 -- a count goes up to 18,446,744,073,709,551,615 and stays there
 abbrev pub capped : ℕ → ℕ

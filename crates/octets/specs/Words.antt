@@ -1,10 +1,5 @@
 -- Words for tests, so that a rule reads as the paper states it.
-use Rattle.std.specs.Prelude.{ℕ, Bool, true, false, ltb, leb, eqb}
-
-infix 5 if◌then◌else◌
-abbrev pub if◌then◌else◌ : {A : Type 0} → Bool → A → A → A
-if◌then◌else◌ true a b = a
-if◌then◌else◌ false a b = b
+use Rattle.std.specs.Prelude.{ℕ, Bool, ltb, leb, eqb}
 
 infix 50 ◌below◌
 abbrev pub ◌below◌ : ℕ → ℕ → Bool

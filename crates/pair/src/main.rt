@@ -1,6 +1,6 @@
 // Will two ends agree? Reads the settings of A and of B, runs rounds until both ends are settled, and reports (docs/FORMATS.md).
-use console::Lines;
 use console::arguments::Source;
+use console::{Lines, Reader};
 use feature::State;
 use notices::Log;
 use parameters::{Feature, Parameters};
@@ -222,32 +222,32 @@ fn compared(out: &mut [u8], x: Settings, y: Settings) -> usize {
 }
 
 // Reads both ends, and gives the place behind what is to be said, 0 where a read has failed.
-fn said(input: &mut [u8], out: &mut [u8], l: Lines) -> usize {
-    let s = settings::read_pair(input, out, l, false);
+fn said(from: &mut Reader, input: &mut [u8], out: &mut [u8], l: Lines) -> usize {
+    let s = settings::read_pair(from, input, out, l, false);
     if !s.good {
         return s.at;
     }
     compared(out, s.a, s.b)
 }
 
-// Reads the settings from a descriptor, and writes what is to be said of them.
-fn serve(input: &mut [u8], output: &mut [u8], fd: i32) {
-    let at = said(input, output, console::start(fd));
+// Reads the settings, and writes what is to be said of them.
+fn serve(rt: &HostRuntime, from: &mut Reader, input: &mut [u8], output: &mut [u8]) {
+    let at = said(from, input, output, console::start());
     if at == 0 {
-        console::streams::cannot_read(b"pair");
+        console::streams::cannot_read(rt, b"pair");
         return;
     }
-    console::streams::write(b"pair", octets::first(output, at));
+    console::streams::write(rt, b"pair", octets::first(output, at));
 }
 
 // Writes that the settings cannot be had.
-fn report_unopened(output: &mut [u8], file: &[u8]) {
+fn report_unopened(rt: &HostRuntime, output: &mut [u8], file: &[u8]) {
     let at = report::answers::unopened(output, 0, file);
-    console::streams::write(b"pair", octets::first(output, at));
+    console::streams::write(rt, b"pair", octets::first(output, at));
 }
 
 // Writes the usage, to standard output where help was asked for, and otherwise to standard error.
-fn usage(asked: bool) {
+fn usage(rt: &HostRuntime, asked: bool) {
     let text = b"usage: pair [FILE]
 
 Will two boxes agree? The settings of A, then those of B, are read from FILE, or
@@ -265,19 +265,25 @@ applications max 0 advertise 1 enable 1 willing 0 ethertype 8906 08
 
 docs/FORMATS.md describes the settings and the report.
 ";
-    console::streams::usage(b"pair", text, asked);
+    console::streams::usage(rt, b"pair", text, asked);
 }
 
-fn main() {
-    let mut name = io::buffer();
-    let mut input = io::large_buffer();
-    let mut output = io::large_buffer();
-    let source = console::arguments::asked(&mut name);
+fn main(rt: HostRuntime) {
+    let mut name = [0; 4096];
+    let mut input = [0; 65536];
+    let mut output = [0; 65536];
+    let source = console::arguments::asked(&rt, &mut name);
     match source {
-        Source::Input => serve(&mut input, &mut output, libc::STDIN_FILENO),
-        Source::File(fd) => serve(&mut input, &mut output, fd),
-        Source::Unopened(n) => report_unopened(&mut output, octets::first(&name, n)),
-        Source::Help => usage(true),
-        Source::Unknown => usage(false),
+        Source::Input => {
+            let mut from = Reader::of_standard(rt.stdin());
+            serve(&rt, &mut from, &mut input, &mut output);
+        }
+        Source::File(file) => {
+            let mut from = Reader::of_file(file, rt.stdin());
+            serve(&rt, &mut from, &mut input, &mut output);
+        }
+        Source::Unopened(n) => report_unopened(&rt, &mut output, octets::first(&name, n)),
+        Source::Help => usage(&rt, true),
+        Source::Unknown => usage(&rt, false),
     }
 }

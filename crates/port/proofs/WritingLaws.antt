@@ -1,6 +1,6 @@
 -- Writing a frame and the wish to send: what their functions promise, and a law for each way out of them, with premises in the form in
 -- which a test leaves them. Assumes nothing.
-use Rattle.std.specs.Prelude.{ℕ, ◌+◌, ◌-◌, ◌/◌, ◌<◌, ◌≤◌, ◌^◌, ◌≡◌, Bool}
+use Rattle.std.specs.Prelude.{ℕ, ◌+◌, ◌-◌, ◌/◌, ◌<◌, ◌≤◌, ◌^◌, ◌≡◌, Bool, if◌then◌else◌}
 use Rattle.std.proofs.Common.{◌∙◌, arith, length-append, take_at, drop_at}
 use Rattle.std.proofs.Math.Path.{refl, sym, ap, ap₂}
 use Rattle.std.proofs.Math.Bool.{true, false, not}
@@ -12,7 +12,6 @@ use borrow.Author.Tests.{not-true, not-false, lt-ltb, le-ltb, eqb-true}
 use Rattle.std.proofs.Math.ListN.{length, drop, take}
 use Rattle.std.proofs.lemmas.List.Edits.{sets}
 use Rattle.std.proofs.Math.Seq.{sets-eq, take-append_seam, drop-append_seam}
-use Rattle.octets.specs.Words.{if◌then◌else◌}
 use Rattle.octets.specs.Octets.{at, number4, octets4, same, headed, head}
 use Rattle.octets.specs.Laws.{and_left, same_is, same_refl, unlike, sets_append}
 use Rattle.tlv.specs.declared.Refusal.TheVariants.{NotRunning, ShortOutput}

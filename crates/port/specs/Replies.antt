@@ -1,6 +1,5 @@
 -- What a port answers, in document 01's numbers.
-use Rattle.std.specs.Prelude.{ℕ, Bool, [], ◌∷◌}
-use Rattle.octets.specs.Words.{if◌then◌else◌}
+use Rattle.std.specs.Prelude.{ℕ, Bool, [], ◌∷◌, if◌then◌else◌}
 use Rattle.tlv.specs.Refusals.{Reply, done, refusal, refusal_at}
 use Rattle.notices.specs.Notices.{notice_number}
 use Rattle.port.specs.declared.Answer.{Answer}

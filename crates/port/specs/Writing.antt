@@ -1,7 +1,7 @@
 -- 01, TLV layout, Writing: "control, then the advertised features in ascending type". In place of "The frame always carries the present settings"
 -- 02, E5: "The port shall keep, beside each feature's present state, the sub-TLV last released, and write that one".
-use Rattle.std.specs.Prelude.{ℕ, ◌+◌, Bool, not, ◌≡◌, List, [], ◌∷◌, ◌++◌, length, drop}
-use Rattle.octets.specs.Words.{if◌then◌else◌, ◌below◌}
+use Rattle.std.specs.Prelude.{ℕ, ◌+◌, Bool, not, ◌≡◌, List, [], ◌∷◌, ◌++◌, length, drop, if◌then◌else◌}
+use Rattle.octets.specs.Words.{◌below◌}
 use Rattle.octets.specs.Octets.{octets4, same, head}
 use Rattle.tlv.specs.Layout.{fixed_octets}
 use Rattle.tlv.specs.declared.Refusal.TheVariants.{NotRunning, ShortOutput}

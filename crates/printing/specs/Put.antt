@@ -1,8 +1,8 @@
 -- Text in a buffer: it stands at its place whole, or not at all.
-use Rattle.std.specs.Prelude.{ℕ, ◌+◌, ◌/◌, ◌%◌, ◌≡◌, List, [], ◌∷◌, length}
+use Rattle.std.specs.Prelude.{ℕ, ◌+◌, ◌/◌, ◌%◌, ◌≡◌, List, [], ◌∷◌, length, if◌then◌else◌}
 use Rattle.std.proofs.lemmas.List.Edits.{sets}
 use Rattle.io.specs.Digits.{last_digits, IsDigitCount}
-use Rattle.octets.specs.Words.{if◌then◌else◌, ◌below◌, ◌atmost◌}
+use Rattle.octets.specs.Words.{◌below◌, ◌atmost◌}
 
 unfoldable pub placed : List ℕ → ℕ → List ℕ → ℕ
 placed out place s = if place + length s atmost length out then place + length s else place

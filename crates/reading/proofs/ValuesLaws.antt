@@ -1,6 +1,6 @@
 -- Sub-TLVs as type and value, the octets they are written as, and what a walk finds, by values instead of places.
-use Rattle.std.specs.Prelude.{ℕ, ◌+◌, ◌≤◌, min, ◌≡◌, Bool, not, ◌||◌, List, [], ◌∷◌, ◌++◌, length}
-use Rattle.octets.specs.Words.{if◌then◌else◌, ◌below◌, ◌is◌}
+use Rattle.std.specs.Prelude.{ℕ, ◌+◌, ◌≤◌, min, ◌≡◌, Bool, not, ◌||◌, List, [], ◌∷◌, ◌++◌, length, if◌then◌else◌}
+use Rattle.octets.specs.Words.{◌below◌, ◌is◌}
 use Rattle.octets.specs.Octets.{at, headed}
 use Rattle.contents.specs.declared.Found.{Found}
 use Rattle.contents.specs.declared.Contents.{Contents}

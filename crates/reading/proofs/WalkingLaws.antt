@@ -1,10 +1,10 @@
 -- The thin reader can be walked with: `reader_walks`. Assumes nothing.
 use Prim.Native.Nat.{ℕ, zero, suc, ◌+◌, ◌≤◌}
-use Rattle.std.specs.Prelude.{◌≡◌, Bool, true, false, not, List, [], ◌∷◌, ◌↔◌, length}
+use Rattle.std.specs.Prelude.{◌≡◌, Bool, true, false, not, List, [], ◌∷◌, ◌↔◌, length, if◌then◌else◌}
 use Rattle.std.proofs.Common.{◌∙◌, ap, arith, eq-eqb}
 use Rattle.std.proofs.Math.Path.{refl, sym}
 use denote.Ref.{Bor}
-use Rattle.octets.specs.Words.{if◌then◌else◌, ◌below◌, ◌is◌}
+use Rattle.octets.specs.Words.{◌below◌, ◌is◌}
 use Rattle.octets.specs.Octets.{at}
 use Rattle.tlv.specs.declared.Refusal.TheVariants.{PastEnd, NoControl, ControlLength, ControlVersion}
 use Rattle.tlv.specs.declared.Head.{Head}

@@ -1,6 +1,6 @@
 -- 01, TLV layout: the walk over the sub-TLVs of a whole frame, and refusals 3 to 8.
-use Rattle.std.specs.Prelude.{ℕ, zero, suc, ◌+◌, Bool, true, false, not, List, length}
-use Rattle.octets.specs.Words.{if◌then◌else◌, ◌is◌}
+use Rattle.std.specs.Prelude.{ℕ, zero, suc, ◌+◌, Bool, true, false, not, List, length, if◌then◌else◌}
+use Rattle.octets.specs.Words.{◌is◌}
 use Rattle.octets.specs.Octets.{at}
 use Rattle.tlv.specs.declared.Refusal.TheVariants.{NotDcbx, WrongLength, PastEnd}
 use Rattle.tlv.specs.declared.Head.{Head}

@@ -1,7 +1,7 @@
 -- 02, E6: "Halted before any sub-TLV and taken up with only the places, counts and control it kept and the octets from there on, it
 -- gives the same answer."
-use Rattle.std.specs.Prelude.{ℕ, ◌+◌, ◌≡◌, not, List, length, drop}
-use Rattle.octets.specs.Words.{if◌then◌else◌, ◌is◌}
+use Rattle.std.specs.Prelude.{ℕ, ◌+◌, ◌≡◌, not, List, length, drop, if◌then◌else◌}
+use Rattle.octets.specs.Words.{◌is◌}
 use Rattle.tlv.specs.declared.Refusal.TheVariants.{NotDcbx, WrongLength}
 use Rattle.tlv.specs.declared.Head.TheVariants.{SubTlv}
 use Rattle.walk.specs.declared.Walk.{Walk}

@@ -1,6 +1,6 @@
 -- 02, E11: "Under 1.0 type 4 is skipped like any unknown type".
-use Rattle.std.specs.Prelude.{ℕ, zero, suc, ◌+◌, ◌≡◌, true, false, not, List, length}
-use Rattle.octets.specs.Words.{if◌then◌else◌, ◌is◌}
+use Rattle.std.specs.Prelude.{ℕ, zero, suc, ◌+◌, ◌≡◌, true, false, not, List, length, if◌then◌else◌}
+use Rattle.octets.specs.Words.{◌is◌}
 use Rattle.tlv.specs.declared.Revision.{Revision}
 use Rattle.tlv.specs.declared.Revision.TheVariants.{Rev101, Rev10}
 use Rattle.contents.specs.declared.Contents.{Contents}

@@ -1,8 +1,7 @@
 -- 01, TLV layout: "The reader hands out sub-TLVs one at a time over the caller's own octets and copies none." What the thin reader
 -- promises, and what a caller meets who walks with it.
-use Rattle.std.specs.Prelude.{ℕ, ◌+◌, ◌≡◌, true, ◌↔◌, List, [], ◌∷◌, length}
+use Rattle.std.specs.Prelude.{ℕ, ◌+◌, ◌≡◌, true, ◌↔◌, List, [], ◌∷◌, length, if◌then◌else◌}
 use Rattle.std.specs.Borrow.{Bor}
-use Rattle.octets.specs.Words.{if◌then◌else◌}
 use Rattle.tlv.specs.declared.Refusal.TheVariants.{PastEnd}
 use Rattle.tlv.specs.declared.Head.{Head}
 use Rattle.tlv.specs.declared.Head.TheVariants.{End, Past, SubTlv}

@@ -1,9 +1,8 @@
 -- The operations of a recorder, a law for each way out. Assumes nothing.
-use Rattle.std.specs.Prelude.{ℕ, ◌-◌, ◌<◌, ◌≤◌, ◌≡◌, Bool, true, false, not, List, set, replicate}
+use Rattle.std.specs.Prelude.{ℕ, ◌-◌, ◌<◌, ◌≤◌, ◌≡◌, Bool, true, false, not, List, set, replicate, if◌then◌else◌}
 use Rattle.std.proofs.Math.Path.{refl}
 use Rattle.std.proofs.Common.{ap, ◌∙◌}
 use borrow.Author.Tests.{not-true, not-false, le-leb, lt-leb}
-use Rattle.octets.specs.Words.{if◌then◌else◌}
 use Rattle.tlv.specs.declared.Refusal.{Refusal}
 use Rattle.tlv.specs.declared.Refusal.TheVariants.{NoPort}
 use Rattle.contents.specs.declared.Reading.{Reading}

@@ -1,6 +1,5 @@
 -- 02, E10: a recorder, "four ports that share one log of 64 notices", and its operations. Each names its port by a number.
-use Rattle.std.specs.Prelude.{ℕ, ◌-◌, ◌≡◌, List, get_or, set, replicate}
-use Rattle.octets.specs.Words.{if◌then◌else◌}
+use Rattle.std.specs.Prelude.{ℕ, ◌-◌, ◌≡◌, List, get_or, set, replicate, if◌then◌else◌}
 use Rattle.tlv.specs.declared.Refusal.TheVariants.{NoPort}
 use Rattle.parameters.specs.declared.Feature.{Feature}
 use Rattle.feature.specs.declared.Switches.{Switches}

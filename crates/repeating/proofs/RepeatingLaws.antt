@@ -1,10 +1,9 @@
 -- Laws for each way out of the functions. Assumes nothing.
-use Rattle.std.specs.Prelude.{ℕ, ◌<◌, ◌≤◌, Bool, true, ◌&&◌, ◌≡◌, List, length, take, drop}
+use Rattle.std.specs.Prelude.{ℕ, ◌<◌, ◌≤◌, Bool, true, ◌&&◌, ◌≡◌, List, length, take, drop, if◌then◌else◌}
 use Rattle.std.proofs.Math.Bool.{false, not}
 use Rattle.std.proofs.Common.{◌∙◌, sym}
 use Rattle.std.proofs.Math.Path.{refl, ap}
 use borrow.Author.Tests.{not-true, not-false, lt-ltb, le-ltb, eq-eqb, ne_eqb}
-use Rattle.octets.specs.Words.{if◌then◌else◌}
 use Rattle.octets.specs.Octets.{at, same}
 use Rattle.contents.specs.declared.Contents.{Contents}
 use Rattle.tlv.specs.declared.Revision.{Revision}

@@ -1,8 +1,9 @@
 // Replays a capture between two ports, and reports what was counted (docs/FORMATS.md, The report of `replay`).
-use console::Lines;
 use console::arguments::Source;
+use console::{Lines, Reader};
 use counting::Tally;
 use settings::Pair;
+use std::io::IsTerminal;
 use tally::Replay;
 
 // How many lines were read.
@@ -12,8 +13,8 @@ fn lines_of(t: Tally) -> u64 {
 }
 
 // Shows a terminal how far the reading is.
-fn show(terminal: bool, shown: u64, t: Tally) -> u64 {
-    console::streams::show(b"replay", terminal, shown, lines_of(t))
+fn show(rt: &HostRuntime, terminal: bool, shown: u64, t: Tally) -> u64 {
+    console::streams::show(rt, b"replay", terminal, shown, lines_of(t))
 }
 
 // The counts at the end of the input, or where a read has failed.
@@ -24,8 +25,14 @@ struct Ended {
 }
 
 // Feeds the rest of the input, read by read. A proved loop ends: it counts its turns down, from a number that no run uses up.
-fn feed_all(input: &mut [u8], start: Replay, first: Lines) -> Ended {
-    let terminal = libc::isatty(libc::STDERR_FILENO) == 1;
+fn feed_all(
+    rt: &HostRuntime,
+    from: &mut Reader,
+    input: &mut [u8],
+    start: Replay,
+    first: Lines,
+) -> Ended {
+    let terminal = rt.stderr().is_terminal();
     let mut r = start;
     let mut lines = first;
     let mut shown: u64 = 0;
@@ -33,13 +40,13 @@ fn feed_all(input: &mut [u8], start: Replay, first: Lines) -> Ended {
     while 0 < turns {
         turns -= 1;
         r = tally::feed(r, console::rest(input, lines));
-        shown = show(terminal, shown, r.tally);
+        shown = show(rt, terminal, shown, r.tally);
         if !lines.open {
             break;
         }
-        lines = console::more(input, console::pass_rest(lines));
+        lines = console::more(from, input, console::pass_rest(lines));
     }
-    console::streams::clear(shown);
+    console::streams::clear(rt, shown);
     Ended {
         tally: tally::finish(r),
         failed: lines.failed,
@@ -47,44 +54,48 @@ fn feed_all(input: &mut [u8], start: Replay, first: Lines) -> Ended {
 }
 
 // Creates both ends, replays the capture, and reports.
-fn run(input: &mut [u8], output: &mut [u8], s: Pair, alone: bool) {
+fn run(
+    rt: &HostRuntime,
+    from: &mut Reader,
+    input: &mut [u8],
+    output: &mut [u8],
+    s: Pair,
+    alone: bool,
+) {
     let b = s.b;
     let start = tally::start(settings::port_with(s.a), settings::port_with(b));
-    let ended = feed_all(
-        input,
-        start,
-        console::streams::behind_settings(b.lines, alone),
-    );
+    let first = console::streams::behind_settings(from, b.lines, alone);
+    let ended = feed_all(rt, from, input, start, first);
     if ended.failed {
-        console::streams::cannot_read(b"replay");
+        console::streams::cannot_read(rt, b"replay");
         return;
     }
     let n = tally::text::report(ended.tally, output);
-    console::streams::write(b"replay", octets::first(output, n));
+    console::streams::write(rt, b"replay", octets::first(output, n));
 }
 
-// Reads the settings from a descriptor, and if nothing is wrong with them runs the capture.
-fn serve(input: &mut [u8], output: &mut [u8], fd: i32, alone: bool) {
-    let s = settings::read_pair(input, output, console::start(fd), alone);
+// Reads the settings, and if nothing is wrong with them runs the capture.
+fn serve(rt: &HostRuntime, from: &mut Reader, input: &mut [u8], output: &mut [u8], alone: bool) {
+    let s = settings::read_pair(from, input, output, console::start(), alone);
     if s.good {
-        run(input, output, s, alone);
+        run(rt, from, input, output, s, alone);
         return;
     }
     if !alone & (s.at == 0) {
-        console::streams::cannot_read(b"replay");
+        console::streams::cannot_read(rt, b"replay");
         return;
     }
-    console::streams::refuse(b"replay", output, s.at);
+    console::streams::refuse(rt, b"replay", output, s.at);
 }
 
 // Says that the settings cannot be had.
-fn refuse_unopened(output: &mut [u8], file: &[u8]) {
+fn refuse_unopened(rt: &HostRuntime, output: &mut [u8], file: &[u8]) {
     let at = report::answers::unopened(output, 0, file);
-    console::streams::refuse(b"replay", output, at);
+    console::streams::refuse(rt, b"replay", output, at);
 }
 
 // Writes the usage, to standard output where help was asked for, and otherwise to standard error.
-fn usage(asked: bool) {
+fn usage(rt: &HostRuntime, asked: bool) {
     let text = b"usage: replay [FILE] < CAPTURE
 
 Gives each frame of a capture to the port of the other end, and counts frames,
@@ -106,19 +117,25 @@ B fe10001b2102020a00000000000100000001
 
 docs/FORMATS.md describes the settings, the capture and the report.
 ";
-    console::streams::usage(b"replay", text, asked);
+    console::streams::usage(rt, b"replay", text, asked);
 }
 
-fn main() {
-    let mut name = io::buffer();
-    let mut input = io::large_buffer();
-    let mut output = io::large_buffer();
-    let source = console::arguments::asked(&mut name);
+fn main(rt: HostRuntime) {
+    let mut name = [0; 4096];
+    let mut input = [0; 65536];
+    let mut output = [0; 65536];
+    let source = console::arguments::asked(&rt, &mut name);
     match source {
-        Source::Input => serve(&mut input, &mut output, libc::STDIN_FILENO, false),
-        Source::File(fd) => serve(&mut input, &mut output, fd, true),
-        Source::Unopened(n) => refuse_unopened(&mut output, octets::first(&name, n)),
-        Source::Help => usage(true),
-        Source::Unknown => usage(false),
+        Source::Input => {
+            let mut from = Reader::of_standard(rt.stdin());
+            serve(&rt, &mut from, &mut input, &mut output, false);
+        }
+        Source::File(file) => {
+            let mut from = Reader::of_file(file, rt.stdin());
+            serve(&rt, &mut from, &mut input, &mut output, true);
+        }
+        Source::Unopened(n) => refuse_unopened(&rt, &mut output, octets::first(&name, n)),
+        Source::Help => usage(&rt, true),
+        Source::Unknown => usage(&rt, false),
     }
 }

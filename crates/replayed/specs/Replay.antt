@@ -1,8 +1,8 @@
 -- 02, E8: "A program reads settings .., then such a file from standard input, makes both ports, gives each frame to the port of the other
 -- end, and writes a report". The run that the rules define: document 01's ports, folded over the lines; and its counts, in plain numbers.
-use Rattle.std.specs.Prelude.{ℕ, ◌+◌, Bool, true, false, not, ◌&&◌, List, [], ◌∷◌}
+use Rattle.std.specs.Prelude.{ℕ, ◌+◌, Bool, true, false, not, ◌&&◌, List, [], ◌∷◌, if◌then◌else◌}
 use Rattle.std.proofs.Math.Option.{Option, none, some}
-use Rattle.octets.specs.Words.{if◌then◌else◌, ◌is◌}
+use Rattle.octets.specs.Words.{◌is◌}
 use Rattle.parameters.specs.declared.Feature.{Feature}
 use Rattle.feature.specs.declared.Reason.{Reason}
 use Rattle.feature.specs.Reasons.{reason_number}

@@ -1,6 +1,6 @@
 -- 01, Port events: the send rule and fresh states; and step 5 of Handling a frame.
-use Rattle.std.specs.Prelude.{ℕ, Bool, false, not, ◌&&◌}
-use Rattle.octets.specs.Words.{if◌then◌else◌, ◌is◌}
+use Rattle.std.specs.Prelude.{ℕ, Bool, false, not, ◌&&◌, if◌then◌else◌}
+use Rattle.octets.specs.Words.{◌is◌}
 use Rattle.feature.specs.declared.State.{State}
 use Rattle.machine.specs.State.{next, fresh, stopped, marked}
 use Rattle.port.specs.declared.Control.{Control}

@@ -1,6 +1,6 @@
 // The settings of ports, four lines each, three for Rev 1.0, which make a recorder.
 use addressing::PortWord;
-use console::Lines;
+use console::{Lines, Reader};
 use faults::Fault;
 use feature::Switches;
 use grammar::{Field, Name};
@@ -153,8 +153,8 @@ fn port_of(line: &[u8], ports: bool) -> PortWord {
 }
 
 // The next line, read as the one that is due.
-fn read_setting(buffer: &mut [u8], l: Lines, due: Part, ports: bool) -> Read {
-    let lines = console::next_line(buffer, l);
+fn read_setting(from: &mut Reader, buffer: &mut [u8], l: Lines, due: Part, ports: bool) -> Read {
+    let lines = console::next_line(from, buffer, l);
     let line = console::line(buffer, lines);
     let w = port_of(line, ports);
     let said = setup::parse_setting(due, addressing::behind_port(line, w.given));
@@ -171,11 +171,11 @@ fn read_setting(buffer: &mut [u8], l: Lines, due: Part, ports: bool) -> Read {
 }
 
 // The line behind one that was read, which has to name the same port.
-fn read_behind(buffer: &mut [u8], r: Read, due: Part, ports: bool) -> Read {
+fn read_behind(from: &mut Reader, buffer: &mut [u8], r: Read, due: Part, ports: bool) -> Read {
     if !r.good {
         return r;
     }
-    let mut next = read_setting(buffer, r.lines, due, ports);
+    let mut next = read_setting(from, buffer, r.lines, due, ports);
     next.good = next.good & (next.port == r.port);
     next
 }
@@ -211,27 +211,33 @@ fn settings_of(control: Head, groups: Read, flow: Read, last: Read) -> Settings 
 }
 
 // The line behind flow control, which Rev 1.0 does not have.
-fn read_last(buffer: &mut [u8], r: Revision, flow: Read, ports: bool) -> Read {
+fn read_last(from: &mut Reader, buffer: &mut [u8], r: Revision, flow: Read, ports: bool) -> Read {
     if !tlv::has_applications(r) {
         return flow;
     }
-    read_behind(buffer, flow, Part::Applications, ports)
+    read_behind(from, buffer, flow, Part::Applications, ports)
 }
 
 // The lines behind groups.
-fn read_rest(buffer: &mut [u8], control: Head, groups: Read, ports: bool) -> Settings {
+fn read_rest(
+    from: &mut Reader,
+    buffer: &mut [u8],
+    control: Head,
+    groups: Read,
+    ports: bool,
+) -> Settings {
     let revision = control.revision;
-    let flow = read_behind(buffer, groups, Part::Flow, ports);
-    let last = read_last(buffer, revision, flow, ports);
+    let flow = read_behind(from, buffer, groups, Part::Flow, ports);
+    let last = read_last(from, buffer, revision, flow, ports);
     settings_of(control, groups, flow, last)
 }
 
 // Reads the lines of a port, up to one that cannot be read. Lines may begin with their port only where `ports` says so.
-pub fn read_port(buffer: &mut [u8], l: Lines, ports: bool) -> Settings {
-    let control = read_setting(buffer, l, Part::Control, ports);
+pub fn read_port(from: &mut Reader, buffer: &mut [u8], l: Lines, ports: bool) -> Settings {
+    let control = read_setting(from, buffer, l, Part::Control, ports);
     let head = head_of(control);
-    let groups = read_behind(buffer, control, Part::Groups, ports);
-    read_rest(buffer, head, groups, ports)
+    let groups = read_behind(from, buffer, control, Part::Groups, ports);
+    read_rest(from, buffer, head, groups, ports)
 }
 
 fn fault(f: Feature, s: Setting) -> Fault {
@@ -413,8 +419,8 @@ struct Ahead {
 }
 
 // Where settings stand alone, no line behind them is an event.
-fn look_ahead(buffer: &mut [u8], l: Lines, alone: bool) -> Ahead {
-    let lines = console::next_line(buffer, l);
+fn look_ahead(from: &mut Reader, buffer: &mut [u8], l: Lines, alone: bool) -> Ahead {
+    let lines = console::next_line(from, buffer, l);
     let more = setup::begins_settings(console::line(buffer, lines));
     Ahead {
         more: lines.found & (alone | more),
@@ -447,11 +453,17 @@ fn not_due(k: Kind) -> Kind {
 }
 
 // Where settings stand alone, only comments and empty lines may stand behind them.
-fn behind_settings(buffer: &mut [u8], out: &mut [u8], l: Lines, alone: bool) -> Told {
+fn behind_settings(
+    from: &mut Reader,
+    buffer: &mut [u8],
+    out: &mut [u8],
+    l: Lines,
+    alone: bool,
+) -> Told {
     if !alone {
         return Told { good: true, at: 0 };
     }
-    let next = console::next_line(buffer, l);
+    let next = console::next_line(from, buffer, l);
     if !next.found {
         return Told {
             good: !next.failed,
@@ -478,15 +490,28 @@ fn judged(out: &mut [u8], s: Settings) -> Told {
 }
 
 // What is said of the settings up to their last line, and of the lines behind them.
-fn told_of_lines(buffer: &mut [u8], out: &mut [u8], last: Settings, alone: bool) -> Told {
+fn told_of_lines(
+    from: &mut Reader,
+    buffer: &mut [u8],
+    out: &mut [u8],
+    last: Settings,
+    alone: bool,
+) -> Told {
     if !last.good {
         return unread_settings(out, buffer, last);
     }
-    behind_settings(buffer, out, last.lines, alone)
+    behind_settings(from, buffer, out, last.lines, alone)
 }
 
-fn told_of_pair(buffer: &mut [u8], out: &mut [u8], a: Settings, b: Settings, alone: bool) -> Told {
-    let told = told_of_lines(buffer, out, b, alone);
+fn told_of_pair(
+    from: &mut Reader,
+    buffer: &mut [u8],
+    out: &mut [u8],
+    a: Settings,
+    b: Settings,
+    alone: bool,
+) -> Told {
+    let told = told_of_lines(from, buffer, out, b, alone);
     if !told.good {
         return told;
     }
@@ -497,8 +522,14 @@ fn told_of_pair(buffer: &mut [u8], out: &mut [u8], a: Settings, b: Settings, alo
     judged(out, b)
 }
 
-fn told_of_single(buffer: &mut [u8], out: &mut [u8], s: Settings, alone: bool) -> Told {
-    let told = told_of_lines(buffer, out, s, alone);
+fn told_of_single(
+    from: &mut Reader,
+    buffer: &mut [u8],
+    out: &mut [u8],
+    s: Settings,
+    alone: bool,
+) -> Told {
+    let told = told_of_lines(from, buffer, out, s, alone);
     if !told.good {
         return told;
     }
@@ -506,9 +537,15 @@ fn told_of_single(buffer: &mut [u8], out: &mut [u8], s: Settings, alone: bool) -
 }
 
 // Reads the settings of one end, and puts what is wrong with them. `alone` says that nothing may stand behind them.
-pub fn read_single(buffer: &mut [u8], out: &mut [u8], l: Lines, alone: bool) -> Single {
-    let end = read_port(buffer, l, false);
-    let told = told_of_single(buffer, out, end, alone);
+pub fn read_single(
+    from: &mut Reader,
+    buffer: &mut [u8],
+    out: &mut [u8],
+    l: Lines,
+    alone: bool,
+) -> Single {
+    let end = read_port(from, buffer, l, false);
+    let told = told_of_single(from, buffer, out, end, alone);
     Single {
         good: told.good,
         at: told.at,
@@ -517,18 +554,24 @@ pub fn read_single(buffer: &mut [u8], out: &mut [u8], l: Lines, alone: bool) -> 
 }
 
 // The settings of B; those of A again, if they cannot be read.
-fn read_second(buffer: &mut [u8], a: Settings) -> Settings {
+fn read_second(from: &mut Reader, buffer: &mut [u8], a: Settings) -> Settings {
     if !a.good {
         return a;
     }
-    read_port(buffer, a.lines, false)
+    read_port(from, buffer, a.lines, false)
 }
 
 // Reads the settings of A, and then of B, and puts what is wrong with them. `alone` says that nothing may stand behind them.
-pub fn read_pair(buffer: &mut [u8], out: &mut [u8], l: Lines, alone: bool) -> Pair {
-    let a = read_port(buffer, l, false);
-    let b = read_second(buffer, a);
-    let told = told_of_pair(buffer, out, a, b, alone);
+pub fn read_pair(
+    from: &mut Reader,
+    buffer: &mut [u8],
+    out: &mut [u8],
+    l: Lines,
+    alone: bool,
+) -> Pair {
+    let a = read_port(from, buffer, l, false);
+    let b = read_second(from, buffer, a);
+    let told = told_of_pair(from, buffer, out, a, b, alone);
     Pair {
         good: told.good,
         at: told.at,
@@ -544,7 +587,13 @@ pub fn port_with(s: Settings) -> Port {
 }
 
 // Reads the settings of ports, creates them and puts the answers. A port comes once, so 257 turns are enough.
-pub fn read_recorder(buffer: &mut [u8], out: &mut [u8], l: Lines, alone: bool) -> Start {
+pub fn read_recorder(
+    from: &mut Reader,
+    buffer: &mut [u8],
+    out: &mut [u8],
+    l: Lines,
+    alone: bool,
+) -> Start {
     let mut made = recorder::blank();
     let mut seen = [false; 256];
     let mut told = Told { good: true, at: 0 };
@@ -552,7 +601,7 @@ pub fn read_recorder(buffer: &mut [u8], out: &mut [u8], l: Lines, alone: bool) -
     let mut turns: usize = 257;
     while 0 < turns {
         turns -= 1;
-        let s = read_port(buffer, lines, true);
+        let s = read_port(from, buffer, lines, true);
         lines = s.lines;
         let c = s.control;
         let n = octets::wide(c.port);
@@ -570,7 +619,7 @@ pub fn read_recorder(buffer: &mut [u8], out: &mut [u8], l: Lines, alone: bool) -
         let answer = e.answer;
         made = recorder::store(made, c.port, e);
         told = created(out, told, s, answer);
-        let ahead = look_ahead(buffer, lines, alone);
+        let ahead = look_ahead(from, buffer, lines, alone);
         lines = ahead.lines;
         if !ahead.more {
             break;

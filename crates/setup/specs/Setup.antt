@@ -1,6 +1,6 @@
 -- docs/FORMATS.md: the lines of settings.
-use Rattle.std.specs.Prelude.{ℕ, ◌%◌, Bool, ◌||◌, List, length}
-use Rattle.octets.specs.Words.{if◌then◌else◌, ◌below◌, ◌is◌}
+use Rattle.std.specs.Prelude.{ℕ, ◌%◌, Bool, ◌||◌, List, length, if◌then◌else◌}
+use Rattle.octets.specs.Words.{◌below◌, ◌is◌}
 use Rattle.octets.specs.Octets.{same}
 use Rattle.octets.specs.Texts.{text}
 use Rattle.tlv.specs.declared.Revision.TheVariants.{Rev101, Rev10}

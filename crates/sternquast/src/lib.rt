@@ -1,4 +1,6 @@
-// The library for firmware in C: all that it calls. include/sternquast.h declares the same to C.
+// What firmware in C calls, as functions of Rattle: `sternquast_c` exports them under the same names.
+#![tactic(auto)]
+
 ghost use Rattle.std.specs.Prelude.{◌≡◌};
 ghost use Rattle.sternquast.specs.Judge.{judged};
 
@@ -13,8 +15,7 @@ pub struct Verdict {
 }
 
 // Judges a frame: refusals 3 to 8 (02, E2).
-#[unsafe(no_mangle)]
-pub extern "C" fn sternquast_judge(frame: &[u8]) -> Verdict
+pub fn sternquast_judge(frame: &[u8]) -> Verdict
     ensures { result ≡ judged frame.now }
 {
     let read = reading::read(frame);

@@ -1,7 +1,7 @@
 -- What the functions do, on the values that they hold: octets as they come, and the text of the counts. A line is counting/Steps; what this comes
 -- to over a whole capture is Replay and Report: see Replayed.
-use Rattle.std.specs.Prelude.{ℕ, ◌≡◌, Bool, true, false, ◌&&◌, List, [], ◌∷◌, ◌++◌, length, drop, replicate}
-use Rattle.octets.specs.Words.{if◌then◌else◌, ◌below◌}
+use Rattle.std.specs.Prelude.{ℕ, ◌≡◌, Bool, true, false, ◌&&◌, List, [], ◌∷◌, ◌++◌, length, drop, replicate, if◌then◌else◌}
+use Rattle.octets.specs.Words.{◌below◌}
 use Rattle.octets.specs.Texts.{text}
 use Rattle.port.specs.declared.Port.{Port}
 use Rattle.port.specs.Settled.{settled}

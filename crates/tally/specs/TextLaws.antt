@@ -1,5 +1,5 @@
 -- The report's octets: what the inner functions promise, and a law for each way out. Assumes nothing.
-use Rattle.std.specs.Prelude.{ℕ, suc, ◌+◌, ◌-◌, ◌*◌, ◌≤◌, ◌<◌, ◌≡◌, Bool, true, false}
+use Rattle.std.specs.Prelude.{ℕ, suc, ◌+◌, ◌-◌, ◌*◌, ◌≤◌, ◌<◌, ◌≡◌, Bool, true, false, if◌then◌else◌}
 use Rattle.std.proofs.Common.{arith, add-one, sym, ◌∙◌, length-append, length-drop, drop-cons, lt-ltb, le-ltb, ltb-true, ltb-false}
 use Rattle.std.proofs.Math.Nat.{zero-add}
 use Rattle.std.proofs.Math.Path.{refl, ap}
@@ -7,7 +7,7 @@ use mathlib.Core.List.{List, [], ◌∷◌, ◌++◌, append_assoc, append-nil}
 use Rattle.std.proofs.Math.ListN.{length, drop, drop_of_length-le}
 use Rattle.std.proofs.lemmas.List.Edits.{sets}
 use Rattle.std.proofs.Math.Seq.{length-sets, sets-eq}
-use Rattle.octets.specs.Words.{if◌then◌else◌, ◌below◌}
+use Rattle.octets.specs.Words.{◌below◌}
 use Rattle.octets.specs.Octets.{at}
 use Rattle.octets.specs.Laws.{sets_append}
 use Rattle.octets.specs.Texts.{text}

@@ -1,6 +1,6 @@
 -- 01, TLV layout: the heads of the DCBX TLV and of its sub-TLVs. Places count from 0 at the TLV's first octet.
-use Rattle.std.specs.Prelude.{ℕ, ◌+◌, ◌*◌, ◌/◌, ◌%◌, Bool, ◌&&◌, List, [], ◌∷◌, ◌++◌, length, take, drop}
-use Rattle.octets.specs.Words.{if◌then◌else◌, ◌atmost◌, ◌is◌}
+use Rattle.std.specs.Prelude.{ℕ, ◌+◌, ◌*◌, ◌/◌, ◌%◌, Bool, ◌&&◌, List, [], ◌∷◌, ◌++◌, length, take, drop, if◌then◌else◌}
+use Rattle.octets.specs.Words.{◌atmost◌, ◌is◌}
 use Rattle.octets.specs.Octets.{at, head, same}
 use Rattle.tlv.specs.declared.Head.{Head}
 use Rattle.tlv.specs.declared.Head.TheVariants.{End, Past, SubTlv}

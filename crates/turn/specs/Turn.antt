@@ -1,6 +1,6 @@
 -- 01, Handling a frame: what steps 1, 3 and 4 make of one feature.
-use Rattle.std.specs.Prelude.{ℕ, true, ◌&&◌, ◌||◌}
-use Rattle.octets.specs.Words.{if◌then◌else◌, ◌is◌}
+use Rattle.std.specs.Prelude.{ℕ, true, ◌&&◌, ◌||◌, if◌then◌else◌}
+use Rattle.octets.specs.Words.{◌is◌}
 use Rattle.parameters.specs.declared.Feature.{Feature}
 use Rattle.feature.specs.declared.Reason.TheVariants.{ControlTwice}
 use Rattle.feature.specs.declared.State.{State}

@@ -1,12 +1,12 @@
 -- What a frame makes of a feature: its small part, decided first, and the parameters held of the peer. Laws for each way out of
 -- the functions. Assumes nothing.
-use Rattle.std.specs.Prelude.{◌≡◌, ℕ, Bool, true, false, not, ◌&&◌, ◌||◌, List, length, ◌≢◌}
+use Rattle.std.specs.Prelude.{◌≡◌, ℕ, Bool, true, false, not, ◌&&◌, ◌||◌, List, length, ◌≢◌, if◌then◌else◌}
 use Rattle.std.proofs.Common.{arith, ◌∙◌, sym}
 use Rattle.std.proofs.Math.Bool.{beq}
 use Rattle.std.proofs.lemmas.Bool.{false≢true}
 use Rattle.std.proofs.Math.Path.{refl, ap}
 use borrow.Author.Tests.{not-true, not-false, eq-eqb, ne_eqb, eqb-true, eqb-false}
-use Rattle.octets.specs.Words.{if◌then◌else◌, ◌is◌, ◌below◌}
+use Rattle.octets.specs.Words.{◌is◌, ◌below◌}
 use Rattle.parameters.specs.declared.Feature.{Feature}
 use Rattle.parameters.specs.declared.Parameters.{Parameters}
 use Rattle.parameters.specs.Parameters.{valid, ours, stored, no_parameters}

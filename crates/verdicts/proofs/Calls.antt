@@ -8,7 +8,8 @@ use mathlib.Core.List.{List, [], ◌∷◌, ◌++◌, append-nil}
 use lib.ListN.{length, length-append}
 use lib.Seq.{append_snoc, take-append_seam}
 use borrow.Author.Tests.{lt-ltb, le-ltb, le-leb, lt-leb, ltb-true, ltb-false, leb-true, eq-eqb, eqb-true, eqb-false, ne_eqb}
-use Rattle.octets.specs.Words.{if◌then◌else◌, ◌below◌, ◌atmost◌, ◌is◌}
+use Rattle.std.specs.Prelude.{if◌then◌else◌}
+use Rattle.octets.specs.Words.{◌below◌, ◌atmost◌, ◌is◌}
 use Rattle.octets.specs.Octets.{at, same}
 use Rattle.octets.specs.Laws.{and_left, and_right}
 use Rattle.octets.specs.Texts.{text}

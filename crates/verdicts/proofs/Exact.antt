@@ -9,7 +9,8 @@ use mathlib.Core.Bool.{Bool, true, false, not, ◌&&◌, false≢true}
 use mathlib.Core.List.{List, [], ◌∷◌, ◌++◌, append-nil}
 use lib.ListN.{length, take}
 use borrow.Author.Tests.{eqb-true, eqb-false, eq-eqb, ne_eqb}
-use Rattle.octets.specs.Words.{if◌then◌else◌, ◌is◌}
+use Rattle.std.specs.Prelude.{if◌then◌else◌}
+use Rattle.octets.specs.Words.{◌is◌}
 use Rattle.octets.specs.Octets.{at, same}
 use Rattle.octets.specs.Laws.{and_left, and_right}
 use Rattle.port.specs.declared.Port.{Port}

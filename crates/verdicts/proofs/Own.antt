@@ -8,7 +8,8 @@ use mathlib.Core.List.{List, [], ◌∷◌, ◌++◌}
 use lib.ListN.{length, take, drop}
 use lib.Seq.{take-append_seam}
 use lib.Dec.{lit<}
-use Rattle.octets.specs.Words.{if◌then◌else◌, ◌below◌}
+use Rattle.std.specs.Prelude.{if◌then◌else◌}
+use Rattle.octets.specs.Words.{◌below◌}
 use Rattle.octets.specs.Octets.{at}
 use Rattle.octets.specs.Texts.{text}
 use Rattle.tlv.specs.declared.Refusal.TheVariants.{NotRunning, ShortOutput}

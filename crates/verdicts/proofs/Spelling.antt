@@ -7,7 +7,8 @@ use mathlib.Core.List.{List, [], ◌∷◌, ◌++◌}
 use lib.ListN.{length, take, drop, replicate, length-take}
 use lib.Seq.{get_or-drop}
 use lib.Dec.{lit<}
-use Rattle.octets.specs.Words.{if◌then◌else◌, ◌below◌, ◌is◌}
+use Rattle.std.specs.Prelude.{if◌then◌else◌}
+use Rattle.octets.specs.Words.{◌below◌, ◌is◌}
 use Rattle.octets.specs.Octets.{at, head, headed}
 use Rattle.tlv.specs.declared.Refusal.{Refusal}
 use Rattle.tlv.specs.declared.Refusal.TheVariants.{NotRunning, SeveralNeighbours, InvalidSetting, UnknownFeature}

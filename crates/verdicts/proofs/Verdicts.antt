@@ -6,7 +6,8 @@ use mathlib.Core.List.{List, [], ◌∷◌, ◌++◌}
 use lib.ListN.{length, take, drop}
 use lib.Seq.{take-append_seam}
 use borrow.Author.Tests.{le-ltb}
-use Rattle.octets.specs.Words.{if◌then◌else◌, ◌below◌}
+use Rattle.std.specs.Prelude.{if◌then◌else◌}
+use Rattle.octets.specs.Words.{◌below◌}
 use Rattle.port.specs.declared.Port.{Port}
 use Rattle.words.specs.Text.{filled}
 use Rattle.capture.specs.Capture.{lines}

@@ -1,7 +1,7 @@
 -- 02, E12: "Exactly what our own engine would write under the same settings and lines is accepted." How the calls at a port of our own stand in a
 -- capture, and the claim; Verdicts has it among the others.
-use Rattle.std.specs.Prelude.{ℕ, ◌+◌, ◌/◌, ◌%◌, ◌≤◌, ◌<◌, ◌≡◌, Bool, true, false, List, [], ◌∷◌, ◌++◌, length, take}
-use Rattle.octets.specs.Words.{if◌then◌else◌, ◌below◌}
+use Rattle.std.specs.Prelude.{ℕ, ◌+◌, ◌/◌, ◌%◌, ◌≤◌, ◌<◌, ◌≡◌, Bool, true, false, List, [], ◌∷◌, ◌++◌, length, take, if◌then◌else◌}
+use Rattle.octets.specs.Words.{◌below◌}
 use Rattle.octets.specs.Octets.{at}
 use Rattle.octets.specs.Texts.{text}
 use Rattle.parameters.specs.declared.Feature.{Feature}

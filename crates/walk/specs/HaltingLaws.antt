@@ -1,8 +1,8 @@
 -- Laws of the walk as a value, one for each answer of the code, and what its inner functions ask. Assumes nothing.
 use Prim.Native.Nat.{ℕ, ◌+◌, ◌-◌, ◌<◌, ◌≤◌, ◌^◌}
-use Rattle.std.specs.Prelude.{◌≡◌, ◌&&◌, List, take}
+use Rattle.std.specs.Prelude.{◌≡◌, ◌&&◌, List, take, if◌then◌else◌}
 use Rattle.std.proofs.Math.ListN.{length, drop}
-use Rattle.octets.specs.Words.{if◌then◌else◌, ◌is◌}
+use Rattle.octets.specs.Words.{◌is◌}
 use Rattle.contents.specs.declared.Contents.{Contents}
 use Rattle.contents.specs.declared.Control.{Control}
 use Rattle.walk.specs.declared.Walk.{Walk}

@@ -1,7 +1,7 @@
 -- What the functions look at on their way along a line: the run of spaces in front, the first word and what stands behind it; the values of hex digits.
-use Rattle.std.specs.Prelude.{ℕ, suc, ◌*◌, ◌/◌, ◌%◌, ◌<◌, min, ◌≡◌, Bool, true, false, List, [], ◌∷◌, length, take, drop}
+use Rattle.std.specs.Prelude.{ℕ, suc, ◌*◌, ◌/◌, ◌%◌, ◌<◌, min, ◌≡◌, Bool, true, false, List, [], ◌∷◌, length, take, drop, if◌then◌else◌}
 use Rattle.std.specs.Bool.{beq}
-use Rattle.octets.specs.Words.{if◌then◌else◌, ◌is◌}
+use Rattle.octets.specs.Words.{◌is◌}
 use Rattle.octets.specs.Octets.{at}
 use Rattle.words.specs.Text.{nibble}
 

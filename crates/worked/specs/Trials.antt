@@ -1,10 +1,10 @@
 -- What the rows of the worked table are computed from: the settings of document 01's W2 and their variants, frames made of its sub-TLVs,
 -- calls at a recorder, at its port 1 where any will do, and rounds between two.
-use Rattle.std.specs.Prelude.{ℕ, zero, suc, ◌/◌, ◌%◌, true, false, ◌&&◌, List, [], ◌∷◌, ◌++◌, map, length, drop, replicate, get_or, set}
+use Rattle.std.specs.Prelude.{ℕ, zero, suc, ◌/◌, ◌%◌, true, false, ◌&&◌, List, [], ◌∷◌, ◌++◌, map, length, drop, replicate, get_or, set, if◌then◌else◌}
 use Prim.Native.String.{String}
 use Rattle.std.proofs.Math.Option.{none}
 use Rattle.std.proofs.Math.ListN as list
-use Rattle.octets.specs.Words.{if◌then◌else◌, ◌is◌}
+use Rattle.octets.specs.Words.{◌is◌}
 use Rattle.octets.specs.Octets.{octets4}
 use Rattle.octets.specs.Texts.{text}
 use Rattle.contents.specs.declared.Reading.{Reading}
