@@ -1,4 +1,6 @@
 // What a port takes of a frame that arrived, steps 1 to 3 for its control, and what a refused frame does (01, Handling a frame).
+#![tactic(auto)]
+
 ghost use Rattle.std.specs.Prelude.{◌≡◌, ◌+◌, ◌≤◌, length};
 ghost use Rattle.contents.specs.Contents.{value_of};
 ghost use Rattle.reading.specs.Promises.{Inside};

@@ -1,4 +1,6 @@
 // The creation of a port, and what stands where none has been made.
+#![tactic(auto)]
+
 ghost use Rattle.std.specs.Prelude.{◌≡◌};
 ghost use Rattle.machine.specs.State.{fresh, setting_of};
 ghost use Rattle.port.specs.Parts.{switched_off, three};

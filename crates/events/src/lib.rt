@@ -1,4 +1,6 @@
 // What an event of a port gives: the notices that it raises, its answer, and whether the exchange has come to rest.
+#![tactic(auto)]
+
 ghost use Rattle.std.specs.Prelude.{◌≡◌};
 ghost use Rattle.port.specs.Replies.{raised_number};
 ghost use Rattle.port.specs.Settled.{unsynced, settled};

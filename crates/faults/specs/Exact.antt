@@ -11,7 +11,6 @@ use Rattle.applications.specs.OursLaws.{all_own}
 use Rattle.applications.specs.ApplicationsLaws.{Entries, entries_told, entries_valid}
 use Rattle.parameters.specs.Parameters.{good_halves, percentages, groups_number, sum, valid_groups, flow_number, mask, valid_flow, ones, entry_count, selector_of, all_from, new_name, is_ours, ours, valid, local_values, valid_local}
 use Rattle.faults.specs.declared.Fault.{Fault}
-use Rattle.faults.specs.declared.Fault.TheVariants as Fault
 use Rattle.faults.specs.Faults.{good_priority, bad_priority, groups_fault, flow_fault, foreign_entry, second_entry, first_entry, low_selector, high_selector, applications_fault, fault_of}
 use Rattle.faults.specs.FaultsLaws.{all_pass}
 

@@ -7,7 +7,6 @@ use Rattle.parameters.specs.declared.Feature.{Feature}
 use Rattle.parameters.specs.declared.Feature.TheVariants.{Groups, Flow, Applications}
 use Rattle.parameters.specs.Parameters.{group_of, percentages, groups_number, good_group, sum, mask, flow_number, ones, entry_count, selector_of, same_name, new_name, is_ours}
 use Rattle.faults.specs.declared.Fault.{Fault}
-use Rattle.faults.specs.declared.Fault.TheVariants as Fault
 
 -- the first of the n numbers from i on that fails a test, and i + n where none does
 unfoldable pub first_not : ℕ → ℕ → (ℕ → Bool) → ℕ

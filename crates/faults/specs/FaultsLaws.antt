@@ -12,7 +12,6 @@ use Rattle.parameters.specs.declared.Feature.{Feature}
 use Rattle.parameters.specs.declared.Feature.TheVariants.{Groups, Flow, Applications}
 use Rattle.parameters.specs.Parameters.{group_of, percentages, good_group, sum, ones, entry_count, selector_of, same_name, all_from, new_name, is_ours}
 use Rattle.faults.specs.declared.Fault.{Fault}
-use Rattle.faults.specs.declared.Fault.TheVariants as Fault
 use Rattle.faults.specs.Faults.{first_not, good_priority, bad_priority, groups_fault, flow_fault, foreign_entry, second_entry, other_entry, first_entry, low_selector, high_selector, applications_fault, fault_of}
 
 -- ---- none fails exactly where all pass

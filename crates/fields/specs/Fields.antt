@@ -4,7 +4,6 @@ use Rattle.octets.specs.Words.{◌below◌, ◌is◌}
 use Rattle.octets.specs.Octets.{at, same}
 use Rattle.octets.specs.Texts.{text}
 use Rattle.grammar.specs.declared.Name.{Name}
-use Rattle.grammar.specs.declared.Name.TheVariants as Name
 use Rattle.grammar.specs.declared.Field.{Field}
 use Rattle.grammar.specs.declared.Field.TheVariants.{Word, Bit, Decimal, Hex2, Hex4, Selector, Parameters, Octets, End}
 use Rattle.grammar.specs.declared.Form.{Form}
@@ -37,8 +36,8 @@ unfoldable pub selector : List ℕ → Number
 selector w =
     if same w (text "ethertype") then Is 0
     else if same w (text "port") then Is 1
-    else if same w (text "selector_2") then Is 2
-    else if same w (text "selector_3") then Is 3
+    else if same w (text "selector-2") then Is 2
+    else if same w (text "selector-3") then Is 3
     else Not
 
 -- a word that says no number is 0 where it is what is due

@@ -113,15 +113,15 @@ module _ (w : List ℕ) where
   unfolding selector
   selector_1 e0 t0 e1 t1 = simp (sym e0 ∙ t0, sym e1 ∙ t1)
 
-  pub selector_2 : {a b c : Bool} → a ≡ same w (text "ethertype") → a ≡ false → b ≡ same w (text "port") → b ≡ false → c ≡ same w (text "selector_2") → c ≡ true → Is 2 ≡ selector w
+  pub selector_2 : {a b c : Bool} → a ≡ same w (text "ethertype") → a ≡ false → b ≡ same w (text "port") → b ≡ false → c ≡ same w (text "selector-2") → c ≡ true → Is 2 ≡ selector w
   unfolding selector
   selector_2 e0 t0 e1 t1 e2 t2 = simp (sym e0 ∙ t0, sym e1 ∙ t1, sym e2 ∙ t2)
 
-  pub selector_3 : {a b c d : Bool} → a ≡ same w (text "ethertype") → a ≡ false → b ≡ same w (text "port") → b ≡ false → c ≡ same w (text "selector_2") → c ≡ false → d ≡ same w (text "selector_3") → d ≡ true → Is 3 ≡ selector w
+  pub selector_3 : {a b c d : Bool} → a ≡ same w (text "ethertype") → a ≡ false → b ≡ same w (text "port") → b ≡ false → c ≡ same w (text "selector-2") → c ≡ false → d ≡ same w (text "selector-3") → d ≡ true → Is 3 ≡ selector w
   unfolding selector
   selector_3 e0 t0 e1 t1 e2 t2 e3 t3 = simp (sym e0 ∙ t0, sym e1 ∙ t1, sym e2 ∙ t2, sym e3 ∙ t3)
 
-  pub selector_none : {a b c d : Bool} → a ≡ same w (text "ethertype") → a ≡ false → b ≡ same w (text "port") → b ≡ false → c ≡ same w (text "selector_2") → c ≡ false → d ≡ same w (text "selector_3") → d ≡ false → Not ≡ selector w
+  pub selector_none : {a b c d : Bool} → a ≡ same w (text "ethertype") → a ≡ false → b ≡ same w (text "port") → b ≡ false → c ≡ same w (text "selector-2") → c ≡ false → d ≡ same w (text "selector-3") → d ≡ false → Not ≡ selector w
   unfolding selector
   selector_none e0 t0 e1 t1 e2 t2 e3 t3 = simp (sym e0 ∙ t0, sym e1 ∙ t1, sym e2 ∙ t2, sym e3 ∙ t3)
 

@@ -1,4 +1,6 @@
 // The words of a setting, read, and the parameters that they give.
+#![tactic(auto)]
+
 ghost use Rattle.std.specs.Prelude.{◌≡◌, ◌≤◌, ◌<◌, eqb, length};
 ghost use Rattle.octets.specs.Octets.{at, same};
 ghost use Rattle.words.specs.Text.{words, listed, filled};

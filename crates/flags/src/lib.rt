@@ -1,4 +1,6 @@
 // Flags and peer gone: the events by which a port starts, stops and goes to the fresh state.
+#![tactic(auto)]
+
 ghost use Rattle.std.specs.Prelude.{◌≡◌};
 ghost use Rattle.port.specs.Parts.{flag_of, with_flag};
 ghost use Rattle.flags.specs.Flags.{flag_notice, restarts, flag_set, flagged, peer_gone};

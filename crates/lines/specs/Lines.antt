@@ -4,14 +4,10 @@ use Rattle.octets.specs.Words.{◌is◌}
 use Rattle.octets.specs.Octets.{at}
 use Rattle.grammar.specs.declared.Field.TheVariants.{End}
 use Rattle.grammar.specs.declared.Form.{Form}
-use Rattle.grammar.specs.declared.Form.TheVariants as Form
 use Rattle.fields.specs.declared.Values.{Values}
 use Rattle.lines.specs.declared.Due.{Due}
-use Rattle.lines.specs.declared.Due.TheVariants as Due
 use Rattle.lines.specs.declared.Unread.{Unread}
-use Rattle.lines.specs.declared.Unread.TheVariants as Unread
 use Rattle.lines.specs.declared.Kind.{Kind}
-use Rattle.lines.specs.declared.Kind.TheVariants as Kind
 use Rattle.lines.specs.declared.Line.{Line}
 use Rattle.words.specs.Text.{first, octets_of, filled}
 use Rattle.fields.specs.Fields.{values_of, parameters_of}

@@ -5,12 +5,11 @@ use borrow.Author.Tests.{not-true, not-false}
 use Rattle.octets.specs.Octets.{at}
 use Rattle.grammar.specs.declared.Field.TheVariants.{End}
 use Rattle.grammar.specs.declared.Form.{Form}
-use Rattle.grammar.specs.declared.Form.TheVariants as Form
 use Rattle.fields.specs.declared.Values.{Values}
 use Rattle.lines.specs.declared.Due.TheVariants as Due
 use Rattle.lines.specs.declared.Kind.{Kind}
 use Rattle.lines.specs.declared.Line.{Line}
-use Rattle.words.specs.Text.{words, first, number, listed, octets_of, filled}
+use Rattle.words.specs.Text.{words, first, listed, octets_of, filled}
 use Rattle.fields.specs.Fields.{values_of, parameter_count, parameter_at, parameters_of}
 use Rattle.lines.specs.Lines.{line_of, bare, not_due, returned, setting_kind, setting_with, feature, plain, alone}
 use Rattle.words.specs.TextLaws.{length-listed}

@@ -1,4 +1,6 @@
 // What a line says, or why it cannot be read; and the words that settings and events share, as docs/FORMATS.md fixes them.
+#![tactic(auto)]
+
 ghost use Rattle.std.specs.Prelude.{◌≡◌, ◌≤◌};
 ghost use Rattle.words.specs.Text.{words};
 ghost use Rattle.lines.specs.Lines.{returned, bare, not_due, setting_kind, feature, plain, alone};

@@ -10,7 +10,7 @@ use Rattle.feature.specs.declared.Outcome.{Outcome}
 use Rattle.feature.specs.declared.State.{State}
 use Rattle.feature.specs.declared.Release.{Release}
 use Rattle.parameters.specs.Parameters.{feature_number, ours, stored, content, same_parameters}
-use Rattle.feature.specs.Outcome.{no_peer, without_peer, judged, outcome}
+use Rattle.feature.specs.Outcome.{no_peer, without_peer, judged}
 
 -- "SeqNo goes up by one, 4,294,967,295 going to 0"
 abbrev pub next : ℕ → ℕ

@@ -26,7 +26,7 @@ use Rattle.feature.specs.declared.Release.{Release}
 use Rattle.feature.specs.Outcome.{without_peer, judged}
 use Rattle.feature.specs.OutcomeLaws.{decided, outcome_of, peer_of, judged_lent, judged_on, judges, switches_of, with_mode}
 use Rattle.feature.specs.RulesLaws.{judged_peer}
-use Rattle.machine.specs.State.{next, fresh_at, flags, value, release_tlv, present, differing, changed, marked, setting_of, same_setting, judged_again, reset}
+use Rattle.machine.specs.State.{next, fresh_at, flags, value, release_tlv, present, differing, changed, marked, setting_of, same_setting}
 
 module _ (sequence max : ℕ) (s : Setting) {d : Decision} {p : Parameters} {o : Outcome} (ep : p ≡ no_parameters) where
   pub fresh_advertised : s.advertise ≡ true → d ≡ decided (without_peer NoPeerYet max false) → o ≡ outcome_of d p
@@ -168,32 +168,6 @@ judged_held f s oper p h {x} ex {m} {n} {own} {t} em eo en et {d} ed er =
     er ∙ ap (λ (d : Decision). outcome_of d p.parameters) e
     ∙ (λ i. outcome_of (decided (judged f s oper q)) (sym m i).parameters)
     ∙ ap (judged f s oper) k
-
-module _ (f : Feature) (s : Setting) (o : Outcome) where
-  pub judged_again_withheld : not s.advertise ≡ true
-      → record { reason = o.reason; oper = o.oper; error = o.error; mode = s.enable; peer = o.peer; adopts = false } ≡ judged_again f s o
-  unfolding judged_again
-  judged_again_withheld t = simp t
-
-  module _ (t : not s.advertise ≡ false) where
-    pub judged_again_held : {r : Outcome} → o.peer.held ≡ true → r ≡ judged f s o.oper o.peer → r ≡ judged_again f s o
-    unfolding judged_again
-    judged_again_held h e = simp (e, t, h)
-
-    pub judged_again_alone : o.peer.held ≡ false
-        → record { reason = o.reason; oper = o.oper; error = o.error; mode = o.mode; peer = o.peer; adopts = false } ≡ judged_again f s o
-    unfolding judged_again
-    judged_again_alone h = simp (t, h)
-
-module _ (f : Feature) (seq : ℕ) (s : Setting) (x : State) where
-  pub reset_anew : {n : ℕ} {r : State} → not (beq x.setting.advertise s.advertise) ≡ true → n ≡ next seq → r ≡ fresh_at n x.max s → r ≡ reset f seq s x
-  unfolding reset
-  reset_anew t e h = simp (h, e, not-true (beq x.setting.advertise s.advertise) t)
-
-  pub reset_kept : {o : Outcome} → not (beq x.setting.advertise s.advertise) ≡ false → o ≡ judged_again f s x.outcome
-      → record { max = x.max; setting = s; outcome = o; syncd = x.syncd; sequence = x.sequence } ≡ reset f seq s x
-  unfolding reset
-  reset_kept t e = simp (e, not-false (beq x.setting.advertise s.advertise) t)
 
 -- ---- writing
 

@@ -10,13 +10,11 @@ use Rattle.octets.specs.Texts.{text}
 use Rattle.grammar.specs.declared.Name.TheVariants as Name
 use Rattle.grammar.specs.declared.Field.TheVariants.{Bit, Decimal}
 use Rattle.grammar.specs.declared.Form.{Form}
-use Rattle.grammar.specs.declared.Form.TheVariants as Form
 use Rattle.words.specs.declared.Number.{Number}
 use Rattle.words.specs.declared.Number.TheVariants.{Is, Not}
 use Rattle.lines.specs.declared.Flag.{Flag}
 use Rattle.lines.specs.declared.Flag.TheVariants.{Admin, Receive, Transmit, Several}
 use Rattle.script.specs.declared.Keyword.{Keyword}
-use Rattle.script.specs.declared.Keyword.TheVariants as Keyword
 use Rattle.lines.specs.declared.Due.TheVariants as Due
 use Rattle.lines.specs.declared.Unread.TheVariants as Unread
 use Rattle.lines.specs.declared.Kind.TheVariants as Kind

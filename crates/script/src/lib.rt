@@ -1,4 +1,6 @@
 // Lines of events, as docs/FORMATS.md fixes them.
+#![tactic(auto)]
+
 ghost use Rattle.std.specs.Prelude.{◌≡◌};
 ghost use Rattle.words.specs.Text.{words, first};
 ghost use Rattle.script.specs.Events.{numbered, keyword, flag_word, flag, write, form_of, change_of, event_of, is_frame, event_line};

@@ -1,4 +1,6 @@
 // The send rule and fresh states: what SeqNo counts, and what is released with it.
+#![tactic(auto)]
+
 ghost use Rattle.std.specs.Prelude.{◌≡◌, ◌&&◌};
 ghost use Rattle.machine.specs.State.{fresh, stopped};
 ghost use Rattle.port.specs.Parts.{feature_of, with_features, three, presents};

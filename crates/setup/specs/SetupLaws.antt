@@ -7,13 +7,11 @@ use Rattle.octets.specs.Octets.{same}
 use Rattle.octets.specs.Texts.{text}
 use Rattle.tlv.specs.declared.Revision.TheVariants.{Rev101, Rev10}
 use Rattle.grammar.specs.declared.Name.{Name}
-use Rattle.grammar.specs.declared.Name.TheVariants as Name
 use Rattle.grammar.specs.declared.Field.TheVariants.{Word, Decimal}
 use Rattle.grammar.specs.declared.Form.TheVariants as Form
 use Rattle.words.specs.declared.Number.{Number}
 use Rattle.words.specs.declared.Number.TheVariants.{Is, Not}
 use Rattle.setup.specs.declared.Part.{Part}
-use Rattle.setup.specs.declared.Part.TheVariants as Part
 use Rattle.lines.specs.declared.Due.TheVariants as Due
 use Rattle.lines.specs.declared.Unread.TheVariants as Unread
 use Rattle.lines.specs.declared.Kind.TheVariants as Kind

@@ -1,4 +1,6 @@
 // Lines of an end's settings, as docs/FORMATS.md fixes them.
+#![tactic(auto)]
+
 ghost use Rattle.std.specs.Prelude.{◌≡◌};
 ghost use Rattle.words.specs.Text.{words};
 ghost use Rattle.setup.specs.Setup.{settings_word, begins_settings, part_name, named_revision, control_of, setting_of, behind_max, behind_name, setting_line};

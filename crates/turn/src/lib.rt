@@ -1,4 +1,6 @@
 // What a frame makes of a feature: steps 1 to 5 of handling.
+#![tactic(auto)]
+
 ghost use Rattle.std.specs.Prelude.{◌≡◌, false, ◌&&◌, ◌||◌};
 ghost use Rattle.octets.specs.Words.{◌is◌};
 ghost use Rattle.turn.specs.TurnLaws.{after, decided_at, peer_parameters_after, keeps_by, kept_at, renewed, turn_of, weighed};

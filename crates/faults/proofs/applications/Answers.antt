@@ -1,6 +1,5 @@
 -- `applications` meets its contract. Assumes nothing.
 use Rattle.faults.specs.FaultsLaws.{entries_ragged, entries_many, entries_foreign, entries_again, entries_selector, entries_none}
-use borrow.Author.Rules.{rules}
 use Rattle.faults.proofs.applications.Goals as goal
 
 pub returns-then-length-ne0 : goal.returns-then-length-ne0

@@ -1,9 +1,5 @@
 -- `bad_priority` meets its contract. Assumes nothing.
-use Prim.Native.Nat.{◌-◌}
-use native.Mathlib.Omega.{arith}
-use Rattle.faults.specs.Faults.{good_priority}
-use Rattle.faults.specs.FaultsLaws.{Seeking, seeking_start, priority_more, priority_bad, priority_end}
-use borrow.Author.Rules.{rules}
+use Rattle.faults.specs.FaultsLaws.{priority_more, priority_bad, priority_end}
 use Rattle.faults.proofs.bad_priority.Goals as goal
 
 pub returns-then-not-good_group : goal.returns-then-not-good_group

@@ -1,9 +1,7 @@
 -- `bad_priority` meets its contract. Assumes nothing.
 use Prim.Native.Nat.{◌-◌}
-use native.Mathlib.Omega.{arith}
 use Rattle.faults.specs.Faults.{good_priority}
-use Rattle.faults.specs.FaultsLaws.{Seeking, seeking_start, priority_more, priority_bad, priority_end}
-use borrow.Author.Rules.{rules}
+use Rattle.faults.specs.FaultsLaws.{Seeking}
 use Rattle.faults.proofs.bad_priority.Given as goal
 
 abbrev pub invariant-loop-i : goal.invariant-loop-i

@@ -1,6 +1,5 @@
 -- `fault_of` meets its contract. Assumes nothing.
 use Rattle.faults.specs.FaultsLaws.{fault_groups, fault_flow, fault_applications}
-use borrow.Author.Rules.{rules}
 use Rattle.faults.proofs.fault_of.Goals as goal
 
 pub returns-in-Groups : goal.returns-in-Groups

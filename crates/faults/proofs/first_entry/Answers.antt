@@ -1,9 +1,6 @@
 -- `first_entry` meets its contract. Assumes nothing.
-use Prim.Native.Nat.{◌-◌}
 use native.Mathlib.Omega.{arith}
-use Rattle.faults.specs.Faults.{other_entry}
-use Rattle.faults.specs.FaultsLaws.{Seeking, seeking_start, first_more, first_found, first_end}
-use borrow.Author.Rules.{rules}
+use Rattle.faults.specs.FaultsLaws.{first_more, first_found, first_end}
 use Rattle.faults.proofs.first_entry.Goals as goal
 
 pub returns-then-same_name : goal.returns-then-same_name

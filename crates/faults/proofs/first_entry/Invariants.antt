@@ -1,9 +1,7 @@
 -- `first_entry` meets its contract. Assumes nothing.
 use Prim.Native.Nat.{◌-◌}
-use native.Mathlib.Omega.{arith}
 use Rattle.faults.specs.Faults.{other_entry}
-use Rattle.faults.specs.FaultsLaws.{Seeking, seeking_start, first_more, first_found, first_end}
-use borrow.Author.Rules.{rules}
+use Rattle.faults.specs.FaultsLaws.{Seeking}
 use Rattle.faults.proofs.first_entry.Given as goal
 
 abbrev pub invariant-loop-j : goal.invariant-loop-j

@@ -1,6 +1,5 @@
 -- `flow` meets its contract. Assumes nothing.
 use Rattle.faults.specs.FaultsLaws.{flow_length, flow_classes, flow_ones, flow_none}
-use borrow.Author.Rules.{rules}
 use Rattle.faults.proofs.flow.Goals as goal
 
 pub returns-then-n-ne2 : goal.returns-then-n-ne2

@@ -1,9 +1,5 @@
 -- `foreign_entry` meets its contract. Assumes nothing.
-use Prim.Native.Nat.{◌-◌}
-use native.Mathlib.Omega.{arith}
-use Rattle.parameters.specs.Parameters.{entry_count, is_ours}
-use Rattle.faults.specs.FaultsLaws.{Seeking, seeking_start, foreign_more, foreign_found, foreign_end}
-use borrow.Author.Rules.{rules}
+use Rattle.faults.specs.FaultsLaws.{foreign_more, foreign_found, foreign_end}
 use Rattle.faults.proofs.foreign_entry.Goals as goal
 
 pub returns-then-not-is_ours : goal.returns-then-not-is_ours

@@ -1,9 +1,7 @@
 -- `foreign_entry` meets its contract. Assumes nothing.
 use Prim.Native.Nat.{◌-◌}
-use native.Mathlib.Omega.{arith}
 use Rattle.parameters.specs.Parameters.{entry_count, is_ours}
-use Rattle.faults.specs.FaultsLaws.{Seeking, seeking_start, foreign_more, foreign_found, foreign_end}
-use borrow.Author.Rules.{rules}
+use Rattle.faults.specs.FaultsLaws.{Seeking}
 use Rattle.faults.proofs.foreign_entry.Given as goal
 
 abbrev pub invariant-loop-i : goal.invariant-loop-i

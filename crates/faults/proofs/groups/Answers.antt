@@ -1,6 +1,5 @@
 -- `groups` meets its contract. Assumes nothing.
 use Rattle.faults.specs.FaultsLaws.{groups_length, groups_group, groups_sum, groups_classes, groups_none}
-use borrow.Author.Rules.{rules}
 use Rattle.faults.proofs.groups.Goals as goal
 
 pub returns-then-n-ne13 : goal.returns-then-n-ne13

@@ -1,10 +1,5 @@
 -- `high_selector` meets its contract. Assumes nothing.
-use Prim.Native.Nat.{◌-◌}
-use native.Mathlib.Omega.{arith}
-use Rattle.parameters.specs.Parameters.{entry_count}
-use Rattle.faults.specs.Faults.{low_selector}
-use Rattle.faults.specs.FaultsLaws.{Seeking, seeking_start, selector_more, selector_found, selector_end}
-use borrow.Author.Rules.{rules}
+use Rattle.faults.specs.FaultsLaws.{selector_more, selector_found, selector_end}
 use Rattle.faults.proofs.high_selector.Goals as goal
 
 pub returns-then-selector_of-ge2 : goal.returns-then-selector_of-ge2

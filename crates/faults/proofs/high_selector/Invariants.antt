@@ -1,10 +1,8 @@
 -- `high_selector` meets its contract. Assumes nothing.
 use Prim.Native.Nat.{◌-◌}
-use native.Mathlib.Omega.{arith}
 use Rattle.parameters.specs.Parameters.{entry_count}
 use Rattle.faults.specs.Faults.{low_selector}
-use Rattle.faults.specs.FaultsLaws.{Seeking, seeking_start, selector_more, selector_found, selector_end}
-use borrow.Author.Rules.{rules}
+use Rattle.faults.specs.FaultsLaws.{Seeking}
 use Rattle.faults.proofs.high_selector.Given as goal
 
 abbrev pub invariant-loop-i : goal.invariant-loop-i

@@ -1,9 +1,5 @@
 -- `second_entry` meets its contract. Assumes nothing.
-use Prim.Native.Nat.{◌-◌}
-use native.Mathlib.Omega.{arith}
-use Rattle.parameters.specs.Parameters.{entry_count, new_name}
-use Rattle.faults.specs.FaultsLaws.{Seeking, seeking_start, second_more, second_found, second_end}
-use borrow.Author.Rules.{rules}
+use Rattle.faults.specs.FaultsLaws.{second_more, second_found, second_end}
 use Rattle.faults.proofs.second_entry.Goals as goal
 
 pub returns-then-first_entry-i : goal.returns-then-first_entry-i

@@ -1,9 +1,7 @@
 -- `second_entry` meets its contract. Assumes nothing.
 use Prim.Native.Nat.{◌-◌}
-use native.Mathlib.Omega.{arith}
 use Rattle.parameters.specs.Parameters.{entry_count, new_name}
-use Rattle.faults.specs.FaultsLaws.{Seeking, seeking_start, second_more, second_found, second_end}
-use borrow.Author.Rules.{rules}
+use Rattle.faults.specs.FaultsLaws.{Seeking}
 use Rattle.faults.proofs.second_entry.Given as goal
 
 abbrev pub invariant-loop-i : goal.invariant-loop-i

@@ -1,6 +1,5 @@
 -- `machine::differs` meets its contract. Assumes nothing.
 use Rattle.machine.specs.StateLaws.{changed_shown, changed_hidden, changed_oper, changed_max, changed_flags, changed_parameters}
-use Rattle.std.proofs.Common.{rules}
 use Rattle.machine.proofs.differs.Goals as goal
 
 pub returns-then-s-t : goal.returns-then-s-t

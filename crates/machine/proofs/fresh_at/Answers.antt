@@ -1,6 +1,5 @@
 -- `machine::fresh_at` meets its contract. Assumes nothing.
 use Rattle.machine.specs.StateLaws.{fresh_advertised, fresh_withheld}
-use Rattle.std.proofs.Common.{rules}
 use Rattle.machine.proofs.fresh_at.Goals as goal
 
 pub returns-then-s : goal.returns-then-s

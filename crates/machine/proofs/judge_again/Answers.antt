@@ -1,6 +1,5 @@
 -- `machine::judge_again` meets its contract. Assumes nothing.
-use Rattle.machine.specs.StateLaws.{judged_again_withheld, judged_again_held, judged_again_alone}
-use Rattle.std.proofs.Common.{rules}
+use Rattle.machine.proofs.SettingLaws.{judged_again_withheld, judged_again_held, judged_again_alone}
 use Rattle.machine.proofs.judge_again.Goals as goal
 
 pub returns-then-not-s : goal.returns-then-not-s

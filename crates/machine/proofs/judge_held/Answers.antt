@@ -1,6 +1,5 @@
 -- `machine::judge_held` meets its contract. Assumes nothing.
 use Rattle.machine.specs.StateLaws.{judged_held}
-use Rattle.std.proofs.Common.{rules}
 use Rattle.machine.proofs.judge_held.Goals as goal
 
 pub returns : goal.returns

@@ -1,6 +1,5 @@
 -- `machine::mark` meets its contract. Assumes nothing.
 use Rattle.machine.specs.StateLaws.{marked_same, marked_changed}
-use Rattle.std.proofs.Common.{rules}
 use Rattle.machine.proofs.mark.Goals as goal
 
 pub returns-then-not-differs : goal.returns-then-not-differs

@@ -1,6 +1,5 @@
 -- `machine::put_sub_tlv` meets its contract. Assumes nothing.
 use Rattle.machine.specs.StateLaws.{nothing_put, sub_tlv_room, sub_tlv_put}
-use Rattle.std.proofs.Common.{rules}
 use Rattle.machine.proofs.put_sub_tlv.Goals as goal
 
 pub returns-then-not-s : goal.returns-then-not-s

@@ -1,6 +1,5 @@
 -- `machine::same_content` meets its contract. Assumes nothing.
 use Rattle.machine.specs.StateLaws.{same_content_is}
-use Rattle.std.proofs.Common.{rules}
 use Rattle.machine.proofs.same_content.Goals as goal
 
 pub returns : goal.returns

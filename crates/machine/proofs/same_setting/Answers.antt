@@ -1,6 +1,5 @@
 -- `machine::same_setting` meets its contract. Assumes nothing.
 use Rattle.machine.specs.StateLaws.{settings_advertise, settings_enable, settings_willing, settings_parameters}
-use Rattle.std.proofs.Common.{rules}
 use Rattle.machine.proofs.same_setting.Goals as goal
 
 pub returns-then-s-t : goal.returns-then-s-t

@@ -1,6 +1,5 @@
 -- `machine::set_anew` meets its contract. Assumes nothing.
-use Rattle.machine.specs.StateLaws.{reset_anew, reset_kept}
-use Rattle.std.proofs.Common.{rules}
+use Rattle.machine.proofs.SettingLaws.{reset_anew, reset_kept}
 use Rattle.machine.proofs.set_anew.Goals as goal
 
 pub returns-then-t-s : goal.returns-then-t-s

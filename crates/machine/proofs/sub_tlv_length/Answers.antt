@@ -1,6 +1,5 @@
 -- `machine::sub_tlv_length` meets its contract. Assumes nothing.
 use Rattle.machine.specs.StateLaws.{sized_withheld, sized_advertised}
-use Rattle.std.proofs.Common.{rules}
 use Rattle.machine.proofs.sub_tlv_length.Goals as goal
 
 pub returns-then-not-s : goal.returns-then-not-s
