@@ -1,4 +1,4 @@
-//! Links the engine as `rt staticlib entries` leaves it, and to the tests the library for C.
+//! Links the engine as `make engine` leaves it, and to the tests the library for C.
 
 fn main() {
     let root = std::env::var("CARGO_MANIFEST_DIR").unwrap();

@@ -12,7 +12,7 @@ pub use script::{Script, Step, What};
 
 use std::path::{Path, PathBuf};
 
-/// Where a program stands: the proved one as `rt check` leaves it, and the reference's.
+/// Where a program stands: the proved one as `make programs` leaves it, and the reference's.
 pub fn programs(name: &str) -> [PathBuf; 2] {
     let root = Path::new(env!("CARGO_MANIFEST_DIR"));
     ["../../target/bin", "../reference/target/release"].map(|folder| root.join(folder).join(name))
