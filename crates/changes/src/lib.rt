@@ -1,4 +1,6 @@
 // Setting changes: one feature of a port under another setting.
+#![tactic(auto)]
+
 ghost use Rattle.std.specs.Prelude.{◌≡◌};
 ghost use Rattle.port.specs.Parts.{feature_of};
 ghost use Rattle.sending.specs.Sending.{completed};

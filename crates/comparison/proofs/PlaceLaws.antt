@@ -1,14 +1,12 @@
 -- The way to an octet of a frame: a law for each way out, with premises in the form in which tests and calls leave them. Assumes nothing.
 use Prim.Native.Nat.{ℕ, suc, ◌+◌, ◌-◌, ◌≤◌, ◌<◌}
 use native.Mathlib.Omega.{arith}
-use Rattle.std.proofs.Common.{add-one, sym, ap, ◌∙◌, lt-ltb, le-ltb}
-use Rattle.std.specs.Prelude.{◌≡◌, refl, List, if◌then◌else◌}
+use Rattle.std.proofs.Common.{lt-ltb, le-ltb}
+use Rattle.std.specs.Prelude.{◌≡◌, refl, List}
 use Rattle.std.proofs.Math.ListN.{length}
-use Rattle.octets.specs.Words.{◌below◌}
 use Rattle.tlv.specs.declared.Head.{Head}
 use Rattle.tlv.specs.declared.Head.TheVariants.{End, Past, SubTlv}
 use Rattle.tlv.specs.Layout.{head_at}
-use Rattle.comparison.specs.declared.places.Position.{Position}
 use Rattle.comparison.specs.declared.places.Position.TheVariants.{Inside, Behind}
 use Rattle.comparison.specs.Places.{position_at, position_from, position_in}
 

@@ -1,4 +1,6 @@
 // A frame beside what a port writes (02, E12): whether it is that, where the two begin to differ, and where in a frame that is.
+#![tactic(auto)]
+
 ghost use Rattle.std.specs.Prelude.{◌≡◌};
 ghost use Rattle.capture.specs.Capture.{frame_of};
 ghost use Rattle.comparison.specs.Comparison.{differing, compared_with};

@@ -1,5 +1,7 @@
 // What is counted of a capture that is replayed between two ports (02, E8), a line at a time. No count goes above 2^64 - 1: it
 // stays there.
+#![tactic(auto)]
+
 ghost use Rattle.std.specs.Prelude.{◌≡◌};
 ghost use Rattle.port.specs.Replies.{event_reply};
 ghost use Rattle.counters.specs.Counters.{counted, refusal_counted, reason_counted, reason_of, changed, further, rests, unchanged};

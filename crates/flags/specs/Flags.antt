@@ -3,7 +3,6 @@ use Rattle.std.specs.Prelude.{Bool, not, if◌then◌else◌}
 use Rattle.std.specs.Bool.{beq}
 use Rattle.tlv.specs.declared.Refusal.TheVariants.{NotRunning}
 use Rattle.notices.specs.declared.Kind.TheVariants as kind
-use Rattle.notices.specs.declared.Notice.{Notice}
 use Rattle.port.specs.declared.Flag.{Flag}
 use Rattle.port.specs.declared.Flag.TheVariants.{Admin, Receive, Transmit, Several}
 use Rattle.port.specs.declared.Port.{Port}
