@@ -1,7 +1,7 @@
 -- Creation, a law for each way out of the functions: premises in the form in which a test or a call leaves them.
 -- Assumes nothing.
 use Rattle.std.specs.Prelude.{ℕ, Bool, true, false, not, ◌≡◌, replicate, List, [], ◌∷◌}
-use Rattle.std.proofs.Common.{◌∙◌, ap}
+use Rattle.std.proofs.Common.{◌∙◌}
 use Rattle.std.proofs.Math.Path.{refl}
 use borrow.Author.Tests.{not-true, not-false}
 use Rattle.tlv.specs.declared.Refusal.TheVariants.{InvalidSetting}

@@ -1,6 +1,5 @@
 -- `creation::blank` meets its contract. Assumes nothing.
 use Rattle.creation.proofs.CreationLaws.{blank_is}
-use borrow.Author.Rules.{rules}
 use Rattle.creation.proofs.blank.Goals as goal
 
 pub returns : goal.returns

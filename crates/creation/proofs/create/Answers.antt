@@ -1,6 +1,5 @@
 -- `creation::create` meets its contract. Assumes nothing.
 use Rattle.creation.proofs.CreationLaws.{created_101, created_10}
-use borrow.Author.Rules.{rules}
 use Rattle.creation.proofs.create.Goals as goal
 
 pub returns-then-has_applications : goal.returns-then-has_applications

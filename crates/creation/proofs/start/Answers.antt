@@ -1,6 +1,5 @@
 -- `creation::start` meets its contract. Assumes nothing.
 use Rattle.creation.proofs.CreationLaws.{start_is}
-use borrow.Author.Rules.{rules}
 use Rattle.creation.proofs.start.Goals as goal
 
 pub returns : goal.returns
