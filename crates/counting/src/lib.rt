@@ -1,4 +1,6 @@
 // Lines of a capture, each given to the port of the other end and counted (02, E8), as they end in a read.
+#![tactic(auto)]
+
 ghost use Rattle.std.specs.Prelude.{◌≡◌};
 ghost use Rattle.handling.specs.Handling.{handled};
 ghost use Rattle.capture.specs.Capture.{frame_of};

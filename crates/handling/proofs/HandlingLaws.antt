@@ -43,7 +43,7 @@ use Rattle.port.proofs.WritingLaws.{controls_raised, asks_control, asks_raised}
 use Rattle.admission.specs.Admission.{has_of, message, seen_twice, met, numbered, newly_marked, rejected}
 use Rattle.admission.specs.AdmissionLaws.{admitted, Admits, heard_of, heard_seq}
 use Rattle.handling.specs.Handling.{twice, exchanged, once, steps1to4, mark_notice, frame_event, accepted, given, handled}
-use Rattle.handling.specs.HandlingLaws.{after_in, change_of, control_after, port_by, q, state_by, unreleased, up_by, waits_by}
+use Rattle.handling.specs.HandlingLaws.{after_in, change_of, control_after, port_by, state_by, unreleased, up_by, waits_by}
 
 pub handled_admitted : (p : Port) (o : List ℕ) → handled p o ≡ given o (admitted p o) p
 unfolding handled given admitted
@@ -93,6 +93,9 @@ raises_by o c p = by (1 below c.control.count) ((message o c).oper is lower p.co
 module _ (o : List ℕ) (c : Contents) (p : Port) where
   module _ (runs : running p ≡ true) {h : Heard} (eh : h ≡ heard_of o c p.control) {g w a : Turn} (eg : g ≡ after_in Groups p.groups h p.control.seq o c.groups)
       (ew : w ≡ after_in Flow p.flow h p.control.seq o c.flow) (ea : a ≡ after_in Applications p.applications h p.control.seq o c.applications) where
+    abbrev q : Port
+    q = port_by o c p h
+
     done : completed p (steps1to4 o c p) ≡ q
     done = completed_by o c p ∙ ap (port_by o c p) (sym eh)
 

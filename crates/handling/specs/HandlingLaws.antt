@@ -1,48 +1,29 @@
 -- Handling a frame by its small part, decided first, and the port that is made of it: laws for each way out of the functions. Assumes
 -- nothing.
-use Rattle.std.specs.Prelude.{ℕ, Bool, true, false, ◌&&◌, ◌||◌, ◌≡◌, List, if◌then◌else◌}
+use Rattle.std.specs.Prelude.{ℕ, Bool, ◌&&◌, List, if◌then◌else◌}
 use Rattle.std.proofs.Math.Bool.{not}
-use Rattle.std.proofs.Common.{◌∙◌}
-use Rattle.std.proofs.Math.Path.{refl, sym, ap}
-use Rattle.octets.specs.Words.{◌below◌, ◌is◌}
-use Rattle.octets.specs.Octets.{same}
+use Rattle.octets.specs.Words.{◌is◌}
 use Rattle.contents.specs.declared.Contents.{Contents}
 use Rattle.contents.specs.declared.Found.{Found}
-use Rattle.tlv.specs.declared.Refusal.{Refusal}
-use Rattle.tlv.specs.declared.Refusal.TheVariants.{NotRunning, SeveralNeighbours}
-use Rattle.contents.specs.declared.Reading.{Reading}
-use Rattle.contents.specs.declared.Reading.TheVariants.{Refused, Accepted}
-use Rattle.reading.specs.Revisions.{read_for}
 use Rattle.contents.specs.Contents.{value_of}
 use Rattle.parameters.specs.declared.Feature.{Feature}
 use Rattle.parameters.specs.declared.Feature.TheVariants.{Groups, Flow, Applications}
-use Rattle.parameters.specs.declared.Parameters.{Parameters}
 use Rattle.feature.specs.declared.State.{State}
-use Rattle.turn.specs.declared.Course.{Course}
 use Rattle.turn.specs.declared.Turn.{Turn}
-use Rattle.feature.specs.Outcome.{lower}
-use Rattle.machine.specs.State.{next, marked}
-use Rattle.turn.specs.Turn.{control_twice, acknowledged, received}
-use Rattle.turn.specs.TurnLaws.{Same, after, turn_of, peer_parameters_after, renewed, after_same, renewed_after}
+use Rattle.turn.specs.TurnLaws.{after, turn_of}
 use Rattle.admission.specs.declared.Heard.{Heard}
 use Rattle.handling.specs.declared.Change.{Change}
 use Rattle.port.specs.declared.Control.{Control}
 use Rattle.port.specs.declared.Port.{Port}
 use Rattle.port.specs.declared.Released.{Released}
-use Rattle.port.specs.declared.Notices.{Notices}
-use Rattle.port.specs.declared.Event.{Event}
-use Rattle.port.specs.declared.Answer.TheVariants.{Done}
-use Rattle.notices.specs.declared.Kind.TheVariants.{DuplicateControl}
-use Rattle.port.specs.Parts.{feature_of, three, with_control, with_features, presents, with_released, release, some, running}
-use Rattle.port.specs.Writing.{control_value, asks}
+use Rattle.port.specs.Parts.{feature_of, with_control, with_features, presents, with_released, some}
+use Rattle.port.specs.Writing.{asks}
 use Rattle.sending.specs.SendingLaws.{counted}
-use Rattle.sending.proofs.SendingLaws.{sent_counted}
 use Rattle.sending.specs.Sending.{unacknowledged, raises_seq_no, step5, completed}
-use Rattle.events.specs.PortEvents.{becomes, raises}
-use Rattle.port.proofs.WritingLaws.{controls_raised, asks_control, asks_raised}
-use Rattle.admission.specs.Admission.{has_of, message, seen_twice, met, numbered, newly_marked, rejected}
-use Rattle.admission.specs.AdmissionLaws.{admitted, Admits, heard_of, heard_seq}
-use Rattle.handling.specs.Handling.{twice, exchanged, once, steps1to4, mark_notice, frame_event, accepted, given, handled}
+use Rattle.events.specs.PortEvents.{raises}
+use Rattle.admission.specs.Admission.{has_of}
+use Rattle.admission.specs.AdmissionLaws.{heard_of}
+use Rattle.handling.specs.Handling.{steps1to4, mark_notice}
 
 -- ---- one feature
 
@@ -92,11 +73,3 @@ change_of o c p =
       applications = turn_of q.applications;
       notices = raises (mark_notice p q) p q;
     }
-
--- ---- what is decided, and what is made of it
-
-module _ (o : List ℕ) (c : Contents) (p : Port) where
-  module _ (runs : running p ≡ true) {h : Heard} (eh : h ≡ heard_of o c p.control) {g w a : Turn} (eg : g ≡ after_in Groups p.groups h p.control.seq o c.groups)
-      (ew : w ≡ after_in Flow p.flow h p.control.seq o c.flow) (ea : a ≡ after_in Applications p.applications h p.control.seq o c.applications) where
-    abbrev pub q : Port
-    q = port_by o c p h

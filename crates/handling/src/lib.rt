@@ -1,5 +1,7 @@
 // Handling a frame (01, Handling a frame). What is small is decided first; the next port is then made of it at once, since a port
 // is long to copy.
+#![tactic(auto)]
+
 ghost use Rattle.std.specs.Prelude.{◌≡◌, true, ◌+◌, ◌≤◌, length};
 ghost use Rattle.contents.specs.declared.Reading.TheVariants.{Accepted};
 ghost use Rattle.contents.specs.Contents.{value_of};

@@ -3,7 +3,7 @@ use Prim.Native.Nat.{ℕ, ◌+◌, ◌<◌, ◌≤◌, ◌^◌, min}
 use native.Mathlib.Omega.{arith}
 use native.Mathlib.Nat.{min-le_left, le_refl, mod-lt}
 use mathlib.Core.Path.{◌≡◌, refl, sym, ap, ◌∙◌}
-use mathlib.Core.Bool.{Bool, true, false, not, ◌&&◌, ◌||◌, beq, false≢true}
+use mathlib.Core.Bool.{Bool, true, false, not, ◌&&◌, ◌||◌, false≢true}
 use mathlib.Core.List.{List, []}
 use lib.ListN.{length, take, drop, length-take, get_or-eq_default}
 use lib.Seq.{get_or-take, get_or-drop}
@@ -38,7 +38,8 @@ use Rattle.sending.specs.Sending.{with_seq, raises_seq_no, sent, step5, complete
 use Rattle.admission.specs.Admission.{Message, message, met}
 use Rattle.handling.specs.Handling.{twice, exchanged, once, steps1to4}
 use Rattle.port.specs.Sound.{SoundParameters, SoundSetting, SoundPeer, adopts_by, SoundState, SoundControl, SoundRelease, NoApplications, SoundPort}
-use Rattle.feature.specs.RulesLaws.{judged_by, judged_by_lem, judged_oper, judged_peer}
+use Rattle.feature.specs.RulesLaws.{judged_by_lem, judged_oper, judged_peer}
+use Rattle.invariants.proofs.Outcomes.{SoundOutcome, judged_by_adopts}
 
 -- ---- outcomes
 
@@ -47,23 +48,6 @@ pub sound_stored : (f : Feature) (o : List ℕ) → valid f o ≡ true → Sound
 sound_stored f o v =
     let e : content (stored (ours f o)) ≡ ours f o = content_stored (ours f o) (ours_length f o v) in
     record { whole = ap stored (sym e); own = ap (ours f) e ∙ ours_ours f o ∙ sym e; valid = ap (valid f) e ∙ valid_ours f o v }
-
-pub record SoundOutcome (f : Feature) (max : ℕ) (s : Setting) (o : Outcome) : Type 0 where
-  pub oper : o.oper ≤ max
-  pub peer : SoundPeer f o.peer
-  pub adopts : o.adopts ≡ adopts_by s o.peer
-
--- rules 6 to 9 over both ends' enable and willing, and whether the parameters are compatible
-judged_by_adopts : (e pe w pw c : Bool) (oper : ℕ) (p : Peer) → (judged_by (e && pe) (beq w pw) c w oper p).adopts ≡ (true && e && pe && w && not pw)
-unfolding judged_by
-judged_by_adopts false pe w pw c oper p = refl
-judged_by_adopts true false w pw c oper p = refl
-judged_by_adopts true true false true c oper p = refl
-judged_by_adopts true true false false true oper p = refl
-judged_by_adopts true true false false false oper p = refl
-judged_by_adopts true true true false c oper p = refl
-judged_by_adopts true true true true true oper p = refl
-judged_by_adopts true true true true false oper p = refl
 
 -- no peer is held: none is adopted
 pub adopts_none : (s : Setting) (p : Peer) → p.held ≡ false → adopts_by s p ≡ false

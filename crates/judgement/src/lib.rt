@@ -3,7 +3,7 @@ ghost use Rattle.std.specs.Prelude.{◌≡◌};
 ghost use Rattle.capture.specs.Capture.{frame_of};
 ghost use Rattle.numerals.specs.Numerals.{more};
 ghost use Rattle.judgement.specs.Entries.{flag_of, told_by};
-ghost use Rattle.judgement.specs.Courses.{since_by, taken_by, sent_on, given_on, changed_on, passed_on_lem};
+ghost use Rattle.judgement.specs.Courses.{since_by, taken_by, sent_on, given_on, changed_on, passed_on};
 ghost use Rattle.judgement.specs.Steps.{rejected_with, unjudged};
 
 use feature::Switches;

@@ -42,8 +42,8 @@ rounded l r ol or el er ex ey =
     record {
       left = ap (λ (e : Event). e.port) (ex ∙ delivers l _ _) ∙ rw (er.answers, er.octets) refl;
       right = ap (λ (e : Event). e.port) (ey ∙ delivers r _ _) ∙ rw (el.answers, el.octets) refl;
-      of-left = ap (λ (e : Event). e.notices) (ex ∙ delivers l _ _) ∙ rw (er.answers, er.octets) refl;
-      of-right = ap (λ (e : Event). e.notices) (ey ∙ delivers r _ _) ∙ rw (el.answers, el.octets) refl;
+      of_left = ap (λ (e : Event). e.notices) (ex ∙ delivers l _ _) ∙ rw (er.answers, er.octets) refl;
+      of_right = ap (λ (e : Event). e.notices) (ey ∙ delivers r _ _) ∙ rw (el.answers, el.octets) refl;
       output_l = el.octets;
       output_r = er.octets;
     }

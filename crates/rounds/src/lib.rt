@@ -1,4 +1,6 @@
 // Two ends of a cable: one round between two ports over lent buffers.
+#![tactic(auto)]
+
 ghost use Rattle.std.specs.Prelude.{◌≡◌, ◌&&◌};
 ghost use Rattle.port.specs.Settled.{settled};
 ghost use Rattle.rounds.specs.Round.{Rounded};

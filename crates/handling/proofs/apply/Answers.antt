@@ -1,0 +1,7 @@
+-- `handling::apply` meets its contract. Assumes nothing.
+use Rattle.handling.proofs.HandlingLaws.{apply_is}
+use Rattle.handling.proofs.apply.Goals as goal
+
+pub returns : goal.returns
+returns c = apply_is _ _ _ c.requires.1 c.peer_parameters-x.ensures c.peer_parameters-y.ensures c.peer_parameters-z.ensures
+    c.renew-next.ensures c.renew-next-2.ensures c.renew-next-3.ensures
