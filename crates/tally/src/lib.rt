@@ -1,4 +1,6 @@
 // A capture replayed between two ports, and counted (02, E8). Octets are fed in reads of any length; the counts are a value.
+#![tactic(auto)]
+
 ghost use Rattle.std.specs.Prelude.{◌≡◌};
 ghost use Rattle.tally.specs.Steps.{fed, finished, started, begun};
 
