@@ -1,4 +1,6 @@
 // What a line of one end's capture says, and what is judged behind it (02, E12).
+#![tactic(auto)]
+
 ghost use Rattle.std.specs.Prelude.{◌≡◌};
 ghost use Rattle.capture.specs.Capture.{frame_of};
 ghost use Rattle.numerals.specs.Numerals.{more};
