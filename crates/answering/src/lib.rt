@@ -1,4 +1,6 @@
 // Events at a port of a recorder, a line each, and their answers.
+#![tactic(auto)]
+
 use addressing::PortWord;
 use faults::Fault;
 use feature::Switches;

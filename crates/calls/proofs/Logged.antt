@@ -16,7 +16,6 @@ use Rattle.notices.specs.Notices.{PortNumber, is_port, empty_log, notices_in, of
 use Rattle.notices.specs.LogModel.{Sound, Step, port_of, log_steps, model_steps, writes, takes_one, others, untaken, newest16}
 use Rattle.notices.specs.LogModel as log
 use Rattle.notices.proofs.LogLaws.{empty_sound, empty_holds, steps_hold, steps_sound, others_leave, log_append, writes_append, takings_append, log_writes, writes_in_lem, takings_none, shared_log}
-use Rattle.notices.specs.SharedLog as shared
 use Rattle.port.specs.declared.Raised.{Raised}
 use Rattle.port.specs.declared.Raised.TheVariants as raised_is
 use Rattle.port.specs.declared.Notices.{Notices}

@@ -7,7 +7,6 @@ use lib.ListN.{length, drop, get_or, set}
 use borrow.Author.Tests.{eqb-false}
 use Rattle.std.specs.Prelude.{if◌then◌else◌}
 use Rattle.octets.specs.Words.{◌below◌, ◌is◌}
-use Rattle.octets.specs.Octets.{same}
 use Rattle.octets.specs.Laws.{same_refl}
 use Rattle.tlv.specs.declared.Refusal.{Refusal}
 use Rattle.tlv.specs.declared.Refusal.TheVariants.{NotRunning, SeveralNeighbours, NotDcbx, WrongLength, PastEnd, NoControl, ControlLength, ControlVersion, InvalidSetting, ShortOutput, UnknownFeature, NoNotice, NoPort}

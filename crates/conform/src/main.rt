@@ -1,4 +1,6 @@
 // Judges what one end of a cable sent by what our rules write (docs/FORMATS.md, The verdict of `conform`).
+#![tactic(auto)]
+
 use conformance::Judging;
 use console::arguments::Source;
 use console::{Lines, Reader};

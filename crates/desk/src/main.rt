@@ -1,4 +1,6 @@
 // The desk: the settings of one to four ports, then events, one a line, each answered before the next is read (docs/FORMATS.md).
+#![tactic(auto)]
+
 use console::arguments::Source;
 use console::{Lines, Reader};
 use recorder::Recorder;

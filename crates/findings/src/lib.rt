@@ -1,5 +1,7 @@
 // What people want to know under a verdict (02, E12): how many lines of each kind there were, or what differs, where, and why.
 // Each function puts its text at a place and gives the place behind it.
+#![tactic(auto)]
+
 use comparison::places::Position;
 use judgement::{Course, Judged};
 use port::{Port, Written};

@@ -1,4 +1,6 @@
 // Will two ends agree? Reads the settings of A and of B, runs rounds until both ends are settled, and reports (docs/FORMATS.md).
+#![tactic(auto)]
+
 use console::arguments::Source;
 use console::{Lines, Reader};
 use feature::State;

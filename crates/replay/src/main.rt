@@ -1,4 +1,6 @@
 // Replays a capture between two ports, and reports what was counted (docs/FORMATS.md, The report of `replay`).
+#![tactic(auto)]
+
 use console::arguments::Source;
 use console::{Lines, Reader};
 use counting::Tally;

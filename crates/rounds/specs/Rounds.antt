@@ -1,19 +1,12 @@
 -- 01, Rounds of two ends: the calls of a list of rounds at two ports.
-use Rattle.std.specs.Prelude.{ℕ, ◌≡◌, Bool, true, false, ◌&&◌, List, [], ◌∷◌, ◌++◌, take, if◌then◌else◌}
+use Rattle.std.specs.Prelude.{ℕ, ◌≡◌, Bool, true, false, ◌&&◌, List, [], ◌∷◌, ◌++◌, take}
 use Rattle.std.proofs.Math.Option.{Option, none, some}
 use Rattle.tlv.specs.declared.Refusal.{Refusal}
-use Rattle.parameters.specs.declared.Feature.{Feature}
-use Rattle.parameters.specs.Parameters.{content}
-use Rattle.feature.specs.declared.Setting.{Setting}
-use Rattle.feature.specs.declared.Outcome.{Outcome}
-use Rattle.feature.specs.Outcome.{Received, lower, outcome}
-use Rattle.machine.specs.State.{flags, fresh}
 use Rattle.port.specs.declared.Port.{Port}
 use Rattle.port.specs.declared.Event.{Event}
 use Rattle.port.specs.declared.Written.{Written}
 use Rattle.port.specs.declared.Written.TheVariants as wrote
 use Rattle.port.specs.declared.Answer.TheVariants as answer
-use Rattle.port.specs.Parts.{feature_of}
 use Rattle.port.specs.Writing.{written, output}
 use Rattle.events.specs.PortEvents.{unchanged}
 use Rattle.handling.specs.Handling.{handled}

@@ -1,4 +1,6 @@
 // The settings of ports, four lines each, three for Rev 1.0, which make a recorder.
+#![tactic(auto)]
+
 use addressing::PortWord;
 use console::{Lines, Reader};
 use faults::Fault;

@@ -1,6 +1,5 @@
 -- `rounds::deliver` meets its contract. Assumes nothing.
 use Rattle.rounds.specs.RoundLaws.{received_frame, received_none}
-use borrow.Author.Rules.{rules}
 use Rattle.rounds.proofs.deliver.Goals as goal
 
 pub returns-in-Octets : goal.returns-in-Octets

@@ -1,6 +1,5 @@
 -- `rounds::round` meets its contract. Assumes nothing.
 use Rattle.rounds.specs.RoundLaws.{rounded}
-use borrow.Author.Rules.{rules}
 use Rattle.rounds.proofs.round.Goals as goal
 
 pub returns : goal.returns
