@@ -18,10 +18,8 @@ use Rattle.port.specs.declared.Flag.{Flag}
 use Rattle.port.specs.declared.Flag.TheVariants as flags
 use Rattle.recorder.specs.declared.Change.TheVariants as change
 use Rattle.grammar.specs.declared.Form.{Form}
-use Rattle.grammar.specs.declared.Form.TheVariants as Form
 use Rattle.words.specs.declared.Number.TheVariants.{Is}
 use Rattle.lines.specs.declared.Kind.{Kind}
-use Rattle.lines.specs.declared.Kind.TheVariants as Kind
 use Rattle.words.specs.Text.{is_digit, nibble, hex_digits, is_octets, pair_at, listed, octets_of, ended, words_from, words, first, others, decimal_digits, decimal_from, is_number, number, filled}
 use Rattle.words.specs.Text as spelling
 use Rattle.grammar.specs.Grammar.{switches, fields, due, may_end}

@@ -57,13 +57,11 @@ use Rattle.recorder.specs.declared.Change.TheVariants as change
 use Rattle.recorder.specs.Recorder.{happens}
 use Rattle.calls.proofs.Reachable.{versions_small}
 use Rattle.grammar.specs.declared.Form.{Form}
-use Rattle.grammar.specs.declared.Form.TheVariants as Form
 use Rattle.fields.specs.declared.Values.{Values}
 use Rattle.words.specs.declared.Number.{Number}
 use Rattle.words.specs.declared.Number.TheVariants.{Is, Not}
 use Rattle.lines.specs.declared.Flag as said
 use Rattle.script.specs.declared.Keyword.{Keyword}
-use Rattle.script.specs.declared.Keyword.TheVariants as Keyword
 use Rattle.lines.specs.declared.Kind.{Kind}
 use Rattle.lines.specs.declared.Line as lines
 use Rattle.words.specs.Text.{pair_at, listed, octets_of, words, first, others, number, filled}

@@ -1,13 +1,10 @@
 -- The claim of E12, whole: of any port, and of any input wherever it is cut into reads. Assumes nothing.
 use Prim.Native.Nat.{ℕ, suc}
 use mathlib.Core.Path.{◌≡◌, refl, sym, ap, ◌∙◌}
-use mathlib.Core.Bool.{Bool, true, false}
 use mathlib.Core.List.{List, [], ◌∷◌, ◌++◌}
 use lib.ListN.{length, take, drop}
 use lib.Seq.{take-append_seam}
 use borrow.Author.Tests.{le-ltb}
-use Rattle.std.specs.Prelude.{if◌then◌else◌}
-use Rattle.octets.specs.Words.{◌below◌}
 use Rattle.port.specs.declared.Port.{Port}
 use Rattle.words.specs.Text.{filled}
 use Rattle.capture.specs.Capture.{lines}

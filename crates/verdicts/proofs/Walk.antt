@@ -6,7 +6,7 @@ use native.Mathlib.Nat.{add-zero}
 use mathlib.Core.Path.{◌≡◌, refl, sym, ap, ◌∙◌}
 use mathlib.Core.Bool.{Bool, true, false, not}
 use mathlib.Core.List.{List, [], ◌∷◌}
-use lib.ListN.{length, replicate}
+use lib.ListN.{replicate}
 use Rattle.std.specs.Prelude.{if◌then◌else◌}
 use Rattle.port.specs.declared.Answer.{Answer}
 use Rattle.port.specs.declared.Answer.TheVariants.{Done, Refused}
@@ -18,8 +18,8 @@ use Rattle.judgement.specs.declared.Course.{Course}
 use Rattle.judgement.specs.declared.Judged.{Judged}
 use Rattle.comparison.specs.Comparison.{is_due, place_in}
 use Rattle.judgement.specs.Entries.{Entry, Sent, Given, Changed, Passed, entry_of, octets_in, port_after, is_sent}
-use Rattle.judgement.specs.Courses.{since_by, taken_by, sent_on, given_on, changed_on, passed_on, course_on, begun}
-use Rattle.ruling.specs.Ruling.{Verdict, Accepted, Rejected}
+use Rattle.judgement.specs.Courses.{since_by, taken_by, sent_on, given_on, changed_on, passed_on, course_on}
+use Rattle.ruling.specs.Ruling.{Rejected}
 use Rattle.conformance.specs.Conformance.{port_behind, other, verdict_at, verdict_from, course_from, before_other}
 use Rattle.judgement.specs.Steps.{rejected_with, sent_at, with_entry, with_line}
 use Rattle.conformance.specs.Steps.{verdict_of}

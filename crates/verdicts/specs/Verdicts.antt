@@ -2,7 +2,6 @@
 -- wherever it is cut into reads. The functions' contracts are `started`, `fed` and `finished` (Steps); Conformance has the verdict.
 use Rattle.std.specs.Prelude.{ℕ, ◌+◌, ◌≤◌, ◌≡◌, ◌⊎◌, Bool, true, false, List, [], ◌∷◌, ◌++◌, length, take, drop}
 use Rattle.octets.specs.Octets.{at}
-use Rattle.octets.specs.Texts.{text}
 use Rattle.tlv.specs.declared.Refusal.{Refusal}
 use Rattle.parameters.specs.declared.Feature.{Feature}
 use Rattle.feature.specs.declared.Switches.{Switches}
@@ -16,7 +15,7 @@ use Rattle.port.specs.Replies.{bit}
 use Rattle.port.specs.Writing.{frame, to_write, asks}
 use Rattle.creation.specs.Creation.{created, blank_port}
 use Rattle.recorder.specs.declared.Change.{Change}
-use Rattle.recorder.specs.Recorder.{happens, output}
+use Rattle.recorder.specs.Recorder.{happens}
 use Rattle.calls.specs.Demand1.{unmarked}
 use Rattle.capture.specs.Capture.{lines}
 use Rattle.capture.specs.Feeding.{in_turn, joined}
