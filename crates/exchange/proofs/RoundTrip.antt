@@ -24,7 +24,7 @@ use Rattle.port.specs.declared.Written.TheVariants as wrote
 use Rattle.port.specs.Parts.{feature_of, released_of}
 use Rattle.port.specs.Writing.{frame, written, output}
 use Rattle.port.specs.Sound.{SoundPort}
-use Rattle.admission.specs.Admission.{has_of, message}
+use Rattle.admission.specs.Admission.{has_of}
 use Rattle.recorder.specs.Recorder as recorder
 use Rattle.calls.proofs.Reachable.{reachable_sound}
 use Rattle.exchange.specs.RoundTrip.{knows, FoundOnce, ReadsBack, RoundTrip, RoundTrips}

@@ -6,7 +6,7 @@ use Rattle.tlv.specs.declared.Revision.TheVariants.{Rev101, Rev10}
 use Rattle.contents.specs.declared.Reading.TheVariants.{Accepted}
 use Rattle.reading.specs.Reading.{read_frame}
 use Rattle.parameters.specs.declared.Feature.TheVariants.{Applications}
-use Rattle.feature.specs.declared.Reason.TheVariants.{NoPeerYet, Absent}
+use Rattle.feature.specs.declared.Reason.TheVariants.{Absent}
 use Rattle.port.specs.declared.Port.{Port}
 use Rattle.port.specs.Settled.{settled}
 use Rattle.port.specs.Writing.{released_tlv, frame}

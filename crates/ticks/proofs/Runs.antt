@@ -12,7 +12,6 @@ use Rattle.port.specs.Writing as writing
 use Rattle.port.specs.Sound.{SoundPort}
 use Rattle.handling.specs.Handling.{handled}
 use Rattle.rounds.specs.Rounds.{End, left, right, other, Ends, refused, write, frame, writes, handles, after_write, on_its_way, delivered, exec, Accepts, RefusesWrite, Answers}
-use Rattle.rounds.specs.Rounds as ports
 use Rattle.exchange.specs.Demand3.{Begun}
 use Rattle.exchange.proofs.Calls.{write_leaves}
 use Rattle.ticks.specs.Ticks.{Happening, sets, call, port_of, frame_of, happened, after, Proper, present_tlv, PastStep3, Carries, Told}

@@ -1,1 +1,2 @@
 // Worked exchanges and octets, computed: definitions and their statement alone (specs/Worked.antt).
+#![tactic(auto)]
