@@ -1,11 +1,10 @@
 -- The verdict's line: a law for each way out. Assumes nothing.
-use Rattle.std.specs.Prelude.{ℕ, ◌+◌, ◌≤◌, ◌<◌, ◌≡◌, true, false, List, ◌++◌, if◌then◌else◌}
+use Rattle.std.specs.Prelude.{ℕ, ◌+◌, ◌≤◌, ◌<◌, ◌≡◌, true, false, List, ◌++◌}
 use Rattle.std.proofs.Common.{arith, ◌∙◌, lt-ltb, le-ltb}
 use Rattle.std.proofs.Math.Nat.{zero-add}
 use Rattle.std.proofs.Math.Path.{refl, ap}
 use Rattle.std.proofs.Math.ListN.{length, drop}
 use Rattle.std.proofs.Math.Seq.{sets-eq}
-use Rattle.octets.specs.Words.{◌below◌}
 use Rattle.numerals.specs.Numerals.{more}
 use Rattle.numerals.specs.NumeralLaws.{Laid}
 use Rattle.judgement.specs.declared.Judged.{Judged}

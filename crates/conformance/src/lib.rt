@@ -1,5 +1,7 @@
 // What one end of a cable sent, judged by what our rules write (02, E12). Octets of its capture are fed in reads of any length;
 // what was judged is a value.
+#![tactic(auto)]
+
 ghost use Rattle.std.specs.Prelude.{◌≡◌};
 ghost use Rattle.conformance.specs.Steps.{fed, finished, started};
 

@@ -1,4 +1,6 @@
 // Lines of one end's capture, each judged by what our rules write there (02, E12), as they end in a read.
+#![tactic(auto)]
+
 ghost use Rattle.std.specs.Prelude.{◌≡◌, take};
 ghost use Rattle.script.specs.Events.{event_line};
 ghost use Rattle.capture.specs.Capture.{frame_of};
