@@ -1,4 +1,6 @@
 // A frame that repeats what is held of the peer, as that of a settled peer does every 30 seconds, told before any port is made.
+#![tactic(auto)]
+
 ghost use Rattle.std.specs.Prelude.{◌≡◌, ◌+◌, ◌≤◌, length};
 ghost use Rattle.contents.specs.Contents.{value_of};
 ghost use Rattle.reading.specs.Promises.{Inside};
