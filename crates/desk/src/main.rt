@@ -47,7 +47,7 @@ fn placed(rt: &HostRuntime, output: &[u8], l: Lines, at: usize) -> Place {
 // Reads on until a line is found. The output is written out before each read.
 fn read_on(
     rt: &HostRuntime,
-    from: &mut Reader,
+    reader: &mut Reader,
     input: &mut [u8],
     output: &[u8],
     l: Lines,
@@ -56,7 +56,7 @@ fn read_on(
     if !flush(rt, output, at) {
         return l;
     }
-    let lines = console::fetch(from, input, l);
+    let lines = console::fetch(reader, input, l);
     if lines.failed {
         console::streams::cannot_read(rt, b"desk");
     }
@@ -66,7 +66,7 @@ fn read_on(
 // The next line, if there is one.
 fn next(
     rt: &HostRuntime,
-    from: &mut Reader,
+    reader: &mut Reader,
     input: &mut [u8],
     output: &[u8],
     l: Lines,
@@ -77,7 +77,7 @@ fn next(
         return placed(rt, output, lines, at);
     }
     Place {
-        lines: read_on(rt, from, input, output, lines, at),
+        lines: read_on(rt, reader, input, output, lines, at),
         at: 0,
     }
 }
@@ -88,7 +88,7 @@ fn next(
 // turns down, from a number that no run uses up.
 fn run(
     rt: &HostRuntime,
-    from: &mut Reader,
+    reader: &mut Reader,
     input: &mut [u8],
     output: &mut [u8],
     start: Recorder,
@@ -101,7 +101,7 @@ fn run(
     let mut turns = u64::MAX;
     while 0 < turns {
         turns -= 1;
-        let p = next(rt, from, input, output, lines, at);
+        let p = next(rt, reader, input, output, lines, at);
         lines = p.lines;
         if !lines.found {
             return;
@@ -148,8 +148,8 @@ fn run(
 }
 
 // Reads the settings, and if nothing is wrong with them runs the events.
-fn serve(rt: &HostRuntime, from: &mut Reader, input: &mut [u8], output: &mut [u8], alone: bool) {
-    let s = settings::read_recorder(from, input, output, console::start(), alone);
+fn serve(rt: &HostRuntime, reader: &mut Reader, input: &mut [u8], output: &mut [u8], alone: bool) {
+    let s = settings::read_recorder(reader, input, output, console::start(), alone);
     let lines = s.lines;
     if lines.failed {
         console::streams::cannot_read(rt, b"desk");
@@ -159,8 +159,8 @@ fn serve(rt: &HostRuntime, from: &mut Reader, input: &mut [u8], output: &mut [u8
         flush(rt, output, s.at);
         return;
     }
-    let first = console::streams::behind_settings(from, lines, alone);
-    run(rt, from, input, output, s.recorder, first, s.at);
+    let first = console::streams::behind_settings(reader, lines, alone);
+    run(rt, reader, input, output, s.recorder, first, s.at);
 }
 
 // Writes that the settings cannot be had.
@@ -203,12 +203,12 @@ fn main(rt: HostRuntime) {
     let source = console::arguments::asked(&rt, &mut name);
     match source {
         Source::Input => {
-            let mut from = Reader::of_standard(rt.stdin());
-            serve(&rt, &mut from, &mut input, &mut output, false);
+            let mut reader = Reader::of_standard(rt.stdin());
+            serve(&rt, &mut reader, &mut input, &mut output, false);
         }
         Source::File(file) => {
-            let mut from = Reader::of_file(file, rt.stdin());
-            serve(&rt, &mut from, &mut input, &mut output, true);
+            let mut reader = Reader::of_file(file, rt.stdin());
+            serve(&rt, &mut reader, &mut input, &mut output, true);
         }
         Source::Unopened(n) => report_unopened(&rt, &mut output, octets::first(&name, n)),
         Source::Help => usage(&rt, true),
