@@ -23,6 +23,8 @@
 // raised (of the port and of features 2, 3 and 4, 0 for none); then the state of the port as in tests/reference/src/dump.rs, or nothing where no port has the number;
 // then the log: how many notices are held (1 octet), the dropped counts of ports 1 to 4 (4 octets each), and of each notice,
 // oldest first, the port, the number and the feature.
+#![tactic(auto)]
+
 ghost use Rattle.std.specs.Prelude.{◌<◌, ◌≤◌, length};
 
 pub mod steps;
