@@ -1,5 +1,7 @@
 // What tests and benchmarks call, as a static library: `trial` and `speed` under the names of C. It is thin, so that the library is
 // built in seconds.
+#![tactic(auto)]
+
 #[unsafe(no_mangle)]
 pub extern "C" fn trial_run(script: &[u8], out: &mut [u8]) -> usize {
     trial::run(script, out)

@@ -1,5 +1,7 @@
 // Work to be timed. Frames of one size stand one behind the other; each is read or handled in turn, so many times in all: at
 // ports 1 to 4 of a recorder in turn, or at one port with a log of its own.
+#![tactic(auto)]
+
 use contents::{Found, Reading};
 use port::{Answer, Event, Port, Written};
 use recorder::Recorder;
