@@ -70,7 +70,7 @@ bench: engine
 	$(CARGO) build $(REFERENCE) --bins
 	$(CARGO) run $(COMPARE) --bin bench
 
-# One crate after the other, on a machine that does nothing else: some ten minutes.
+# One crate after the other, on a machine that does nothing else.
 check-time:
 	tests/check-time.sh
 
