@@ -1,9 +1,7 @@
 -- docs/FORMATS.md: words, numbers, bits and octets of a line. A line is a list of octets without its line feed.
-use Rattle.std.specs.Prelude.{ℕ, zero, suc, ◌+◌, ◌-◌, ◌*◌, ◌/◌, ◌%◌, min, Bool, true, ◌&&◌, List, [], ◌∷◌, ◌++◌, length, replicate, if◌then◌else◌}
+use Rattle.std.specs.Prelude.{ℕ, zero, suc, ◌+◌, ◌-◌, ◌*◌, ◌/◌, ◌%◌, min, Bool, true, ◌&&◌, List, [], ◌∷◌, ◌++◌, length, replicate, if◌then◌else◌, Option, Some, None}
 use Rattle.octets.specs.Words.{◌below◌, ◌atmost◌, ◌is◌}
 use Rattle.octets.specs.Octets.{at}
-use Rattle.words.specs.declared.Number.{Number}
-use Rattle.words.specs.declared.Number.TheVariants.{Is, Not}
 
 -- ---- "Words are parted by one or more spaces; spaces before the first word and behind the last do not count."
 
@@ -49,8 +47,8 @@ decimal w = decimal_from 0 w
 unfoldable pub is_number : ℕ → List ℕ → Bool
 is_number limit w = 1 atmost length w && length w atmost 5 && decimal_digits w && decimal w atmost limit
 
-unfoldable pub number : ℕ → List ℕ → Number
-number limit w = if is_number limit w then Is (decimal w) else Not
+unfoldable pub number : ℕ → List ℕ → Option ℕ
+number limit w = if is_number limit w then Some (decimal w) else None
 
 -- ---- "Octets are pairs of lower-case hex digits with nothing between them."
 
