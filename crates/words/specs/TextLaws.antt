@@ -15,11 +15,11 @@ use Rattle.std.proofs.lemmas.List.Recursion.{is_position_or_len}
 use Rattle.std.proofs.lemmas.List.Sums.{prefix_len-le-length}
 use Rattle.std.proofs.Math.ListN.{length}
 use Rattle.std.proofs.lemmas.List.{length-replicate, set_at}
-use Rattle.std.proofs.Math.Seq.{append_snoc}
+use Rattle.std.proofs.Math.Seq.{append_snoc, take-append_seam}
 use borrow.Author.Tests.{le-leb, lt-leb, eqb-true, eqb-false}
 use Rattle.octets.specs.Words.{◌below◌, ◌atmost◌, ◌is◌}
 use Rattle.octets.specs.Octets.{at}
-use Rattle.words.specs.Text.{is_digit, decimal_digits, decimal_from, decimal, is_number, number, nibble, hex_digits, pair_at, listed, octets_of, filled}
+use Rattle.words.specs.Text.{is_digit, decimal_digits, decimal_from, decimal, is_number, number, nibble, hex_digits, pair_at, listed, octets_of, held, pending}
 use Rattle.words.specs.StepsLaws.{run, trimmed, first_word, rest, Nibbles}
 
 -- ---- digits
@@ -155,10 +155,6 @@ listed_last (suc n) i f =
     let e : i + 1 + n ≡ i + suc n = omega arith in
     ap (λ (l : List ℕ). f i ∷ l) (listed_last n (i + 1) f ∙ ap (λ (k : ℕ). listed n (i + 1) f ++ (f k ∷ [])) e)
 
-pub octets_length : (w : List ℕ) {n : ℕ} → n ≡ min (length w / 2) 513 → n ≡ length (octets_of w)
-unfolding octets_of
-octets_length w e = e ∙ sym (length-listed (min (length w / 2) 513) 0 (pair_at w))
-
 pub record Listing (f : ℕ → ℕ) (n : ℕ) (out : List ℕ) (i : ℕ) : Type 0 where
   pub within : i ≤ n
   pub most : n ≤ 513
@@ -182,13 +178,19 @@ module _ {f : ℕ → ℕ} {n : ℕ} {out : List ℕ} {i : ℕ} where
         octets = t ∙ rw (add-one, listed_last i 0 f, a) (sym (append_snoc (listed i 0 f) x (replicate (513 - suc i) 0)));
       }
 
-  pub listing_end : Listing f n out i → n ≤ i → out ≡ filled (listed n 0 f)
-  unfolding filled
-  listing_end r h = let e : i ≡ n = omega arith in r.octets ∙ rw (e, length-listed n 0 f)
+  pub listing_end : Listing f n out i → n ≤ i → record { n = n; octets = out } ≡ held 513 (listed n 0 f)
+  unfolding held
+  listing_end r h = let e : i ≡ n = omega arith in let o : out ≡ listed n 0 f ++ replicate (513 - n) 0 = r.octets ∙ rw e in rw (o, length-listed n 0 f)
 
-pub octets_end : (w : List ℕ) {n : ℕ} {out : List ℕ} {i : ℕ} → Listing (pair_at w) n out i → n ≤ i → n ≡ min (length w / 2) 513 → out ≡ filled (octets_of w)
+pub octets_end : (w : List ℕ) {n : ℕ} {out : List ℕ} {i : ℕ} → Listing (pair_at w) n out i → n ≤ i → n ≡ min (length w / 2) 513 → record { n = n; octets = out } ≡ held 513 (octets_of w)
 unfolding octets_of
-octets_end w r h e = rw e at (listing_end r h)
+octets_end w r h e = listing_end r h ∙ rw e
+
+-- ---- what is held, read back
+
+pub pending_held : (places : ℕ) (p : List ℕ) → pending (held places p) ≡ p
+unfolding held
+pending_held places p = take-append_seam p (replicate (places - length p) 0)
 
 -- ---- the values of hex digits, of which the first i stand in v
 

@@ -1,15 +1,44 @@
 // Words, numbers and octets of a line.
 #![tactic(auto)]
 
-ghost use Rattle.std.specs.Prelude.{◌≡◌, ◌+◌, ◌*◌, ◌/◌, ◌%◌, ◌<◌, ◌==◌, not, min, position, length, drop};
+ghost use Rattle.std.specs.Prelude.{◌≡◌, ◌+◌, ◌*◌, ◌/◌, ◌%◌, ◌<◌, ◌==◌, not, min, [], position, length, drop};
 ghost use Rattle.std.specs.Bool.{beq};
-ghost use Rattle.words.specs.Text.{words, first, number, nibble, hex_digits, pair_at, octets_of, is_octets, filled};
+ghost use Rattle.words.specs.Text.{words, first, number, nibble, hex_digits, pair_at, octets_of, is_octets, held, pending};
 ghost use Rattle.words.specs.StepsLaws.{run, trimmed, first_word, rest, Nibbles};
 
 const SPACE: u8 = 32;
 
+// No number has more digits.
+const DIGITS: usize = 5;
+
 // A longer line cannot be read.
 pub const LONGEST: usize = 1100;
+
+// Octets in memory of a fixed size: the first `n` count, and those past them are zero.
+#[derive(Clone, Copy, Debug, PartialEq, Eq)]
+pub struct Held<const N: usize> {
+    pub n: usize,
+    pub octets: [u8; N],
+}
+
+impl<const N: usize> Held<N> {
+    // No octets.
+    pub fn none() -> Self
+        ensures { result ≡ held N [] }
+    {
+        Held {
+            n: 0,
+            octets: [0; N],
+        }
+    }
+
+    // The octets that count.
+    pub fn as_slice(&self) -> &[u8]
+        ensures { result.now ≡ pending self.now }
+    {
+        octets::first(&self.octets, self.n)
+    }
+}
 
 // The low octet of a number.
 pub fn low(n: usize) -> u8
@@ -70,7 +99,7 @@ pub fn word_at(s: &[u8], n: usize) -> &[u8]
 pub fn read_number(w: &[u8], limit: u16) -> Option<usize>
     ensures { result ≡ number limit w.now }
 {
-    if w.is_empty() || 5 < w.len() {
+    if w.is_empty() || DIGITS < w.len() {
         return None;
     }
     let mut n = 0;
@@ -126,8 +155,8 @@ pub fn is_octets(w: &[u8], most: usize) -> bool
 }
 
 // How many octets a text spells, of those that a line can hold.
-pub fn octets_count(w: &[u8]) -> usize
-    ensures { (result ≡ length (octets_of w.now)) × (result ≡ min (length w.now / 2) 513) }
+fn octets_count(w: &[u8]) -> usize
+    ensures { result ≡ min (length w.now / 2) 513 }
 {
     (w.len() / 2).min(513)
 }
@@ -152,27 +181,21 @@ fn joined(high: u8, low: u8) -> u8
 }
 
 // The octets that pairs of hex digits spell.
-pub fn octets_of(w: &[u8]) -> [u8; 513]
-    ensures { result ≡ filled (octets_of w.now) }
+pub fn octets_of(w: &[u8]) -> Held<513>
+    ensures { result ≡ held 513 (octets_of w.now) }
 {
+    let n = octets_count(w);
     let v = nibbles(w);
-    let mut out = [0; 513];
-    for i in 0..octets_count(w) {
-        out[i] = joined(v[2 * i], v[2 * i + 1]);
+    let mut octets = [0; 513];
+    for i in 0..n {
+        octets[i] = joined(v[2 * i], v[2 * i + 1]);
     }
-    out
+    Held { n, octets }
 }
 
-// How many octets the frame of a line has.
-pub fn frame_length(line: &[u8]) -> usize
-    ensures { result ≡ length (octets_of (drop 2 line.now)) }
-{
-    octets_count(octets::from(line, 2))
-}
-
-// The octets of the frame of a line, zero past them.
-pub fn frame_octets(line: &[u8]) -> [u8; 513]
-    ensures { result ≡ filled (octets_of (drop 2 line.now)) }
+// The frame of a line.
+pub fn frame_of(line: &[u8]) -> Held<513>
+    ensures { result ≡ held 513 (octets_of (drop 2 line.now)) }
 {
     octets_of(octets::from(line, 2))
 }

@@ -4,7 +4,7 @@ use Rattle.words.specs.TextLaws.{listing_start, listing_more, joining, octets_en
 use Rattle.words.proofs.octets_of.Goals as goal
 
 pub loop-i-init : goal.loop-i-init
-loop-i-init c = listing_start _ _ (omega (arith, c.octets_count-i-end.ensures.1))
+loop-i-init c = listing_start _ _ (omega (arith, c.octets_count-n.ensures))
 
 pub loop-i-preserved : goal.loop-i-preserved
 loop-i-preserved c = search (listing_more, joining)

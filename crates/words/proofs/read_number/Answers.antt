@@ -3,12 +3,12 @@ use Rattle.std.proofs.Common.{arith}
 use Rattle.std.proofs.lemmas.Bool.Decides.{nat_tests}
 use Rattle.words.specs.TextLaws.{number_none, number_long, counting_not, counting_above, counting_on, counting_end, ascii_digit}
 use Rattle.words.proofs.read_number.Goals as goal
-use Rattle.words.proofs.read_number.Goals.{then-is_empty-via-then-is_empty, then-is_empty-via-else-is_empty+then-w-gt5}
+use Rattle.words.proofs.read_number.Goals.{then-is_empty-via-then-is_empty, then-is_empty-via-else-is_empty+then-w-gt-DIGITS}
 
 pub returns-then-is_empty : goal.returns-then-is_empty
 returns-then-is_empty c = elim c.then-is_empty.branch [
   | then-is_empty-via-then-is_empty w ↦ number_none _ _ (grind (arith, nat_tests))
-  | then-is_empty-via-else-is_empty+then-w-gt5 w ↦ search number_long
+  | then-is_empty-via-else-is_empty+then-w-gt-DIGITS w ↦ search number_long
 ]
 
 pub returns-then-not-is_ascii_digit : goal.returns-then-not-is_ascii_digit
