@@ -2,6 +2,7 @@
 -- order of the numbers.
 use Rattle.std.specs.Prelude.{ℕ, List, []}
 use Rattle.tlv.specs.declared.Refusal.{Refusal}
+use Rattle.tlv.specs.declared.Rejection.{Rejection}
 use Rattle.tlv.specs.declared.Refusal.TheVariants.{NotRunning, SeveralNeighbours, NotDcbx, WrongLength, PastEnd, NoControl, ControlLength, ControlVersion, InvalidSetting, ShortOutput, UnknownFeature, NoNotice, NoPort}
 
 unfoldable pub refusal_number : Refusal → ℕ
@@ -34,3 +35,7 @@ refusal_at why place = record { number = refusal_number why; place = place; valu
 
 abbrev pub refusal : Refusal → Reply
 refusal why = refusal_at why 0
+
+-- a refusal of a frame, and the place where it went wrong
+abbrev pub rejection : Refusal → ℕ → Rejection
+rejection why place = record { why = why; place = place }

@@ -3,9 +3,11 @@
 
 ghost use Rattle.std.specs.Prelude.{◌≡◌, ◌+◌, ◌*◌, ◌%◌, ◌<◌, ◌≤◌, length};
 ghost use Rattle.std.proofs.lemmas.List.Edits.{sets};
-ghost use Rattle.tlv.specs.Refusals.{refusal_number};
+ghost use Rattle.tlv.specs.Refusals.{refusal_number, rejection};
 ghost use Rattle.tlv.specs.Layout.{head_at, is_dcbx, frame_head};
 ghost use Rattle.tlv.specs.Revisions.{has_applications};
+
+use std::fmt;
 
 // The TLV's type (01, TLV layout).
 const DCBX: u8 = 127;
@@ -14,14 +16,14 @@ const DCBX: u8 = 127;
 const FIXED: [u8; 4] = [0x00, 0x1b, 0x21, 0x02];
 
 // The two revisions in the field (02, E11). Rev 1.0 has no application feature.
-#[derive(Clone, Copy)]
+#[derive(Clone, Copy, Debug, PartialEq, Eq)]
 pub enum Revision {
     Rev101,
     Rev10,
 }
 
-// Why a call is refused; `refusal_number` in specs/ gives document 01's number of each.
-#[derive(Clone, Copy)]
+// Why a call is refused; `refusal_number` in specs/ gives the number of each.
+#[derive(Clone, Copy, Debug, PartialEq, Eq)]
 pub enum Refusal {
     NotRunning,
     SeveralNeighbours,
@@ -53,24 +55,63 @@ pub enum Head {
     },
 }
 
-// The number of document 01 for a refusal.
-pub fn refusal_number(r: Refusal) -> u8
-    ensures { result ≡ refusal_number r }
-{
-    match r {
-        Refusal::NotRunning => 1,
-        Refusal::SeveralNeighbours => 2,
-        Refusal::NotDcbx => 3,
-        Refusal::WrongLength => 4,
-        Refusal::PastEnd => 5,
-        Refusal::NoControl => 6,
-        Refusal::ControlLength => 7,
-        Refusal::ControlVersion => 8,
-        Refusal::InvalidSetting => 9,
-        Refusal::ShortOutput => 10,
-        Refusal::UnknownFeature => 11,
-        Refusal::NoNotice => 12,
-        Refusal::NoPort => 16,
+// The number that stands for a refusal.
+impl From<Refusal> for u8 {
+    ghost from_gives = { λ r n. n ≡ refusal_number r };
+
+    fn from(r: Refusal) -> u8 {
+        match r {
+            Refusal::NotRunning => 1,
+            Refusal::SeveralNeighbours => 2,
+            Refusal::NotDcbx => 3,
+            Refusal::WrongLength => 4,
+            Refusal::PastEnd => 5,
+            Refusal::NoControl => 6,
+            Refusal::ControlLength => 7,
+            Refusal::ControlVersion => 8,
+            Refusal::InvalidSetting => 9,
+            Refusal::ShortOutput => 10,
+            Refusal::UnknownFeature => 11,
+            Refusal::NoNotice => 12,
+            Refusal::NoPort => 16,
+        }
+    }
+}
+
+// The name of a refusal in every answer that is printed (docs/FORMATS.md).
+impl fmt::Display for Refusal {
+    fn fmt<W: fmt::Write>(&self, f: &mut fmt::Formatter<W>) -> fmt::Result {
+        f.write_str(match self {
+            Refusal::NotRunning => "not-running",
+            Refusal::SeveralNeighbours => "several-neighbours",
+            Refusal::NotDcbx => "not-dcbx",
+            Refusal::WrongLength => "frame-length",
+            Refusal::PastEnd => "past-the-end",
+            Refusal::NoControl => "no-control",
+            Refusal::ControlLength => "control-length",
+            Refusal::ControlVersion => "control-version",
+            Refusal::InvalidSetting => "invalid-setting",
+            Refusal::ShortOutput => "no-room",
+            Refusal::UnknownFeature => "no-feature",
+            Refusal::NoNotice => "no-notice",
+            Refusal::NoPort => "no-port",
+        })
+    }
+}
+
+// A refusal, and the place where a frame went wrong, counted from 0 at its first octet; 0 beside every other refusal.
+#[derive(Clone, Copy, Debug, PartialEq, Eq)]
+pub struct Rejection {
+    pub why: Refusal,
+    pub place: usize,
+}
+
+// What refuses anything but a frame has no place in one.
+impl From<Refusal> for Rejection {
+    ghost from_gives = { λ why r. r ≡ rejection why 0 };
+
+    fn from(why: Refusal) -> Rejection {
+        Rejection { why, place: 0 }
     }
 }
 
@@ -78,7 +119,7 @@ pub fn refusal_number(r: Refusal) -> u8
 pub fn length_of(high: u8, low: u8) -> usize
     ensures { (result ≡ high % 2 * 256 + low) × (result < 512) }
 {
-    octets::wide(high % 2) * 256 + octets::wide(low)
+    usize::from(high % 2) * 256 + usize::from(low)
 }
 
 // What stands at `at`: the sub-TLV whose head is there, if the octets go on.
@@ -100,7 +141,7 @@ pub fn head_at(s: &[u8], at: usize) -> Head
     Head::SubTlv {
         kind: high / 2,
         start: at + 2,
-        length: length,
+        length,
     }
 }
 

@@ -1,6 +1,6 @@
--- `tlv::refusal_number` meets its contract, case by case. Assumes nothing.
+-- The number of a refusal meets its contract, case by case. Assumes nothing.
 use Rattle.tlv.specs.Refusals.{refusal_number}
-use Rattle.tlv.proofs.refusal_number.Goals as goal
+use Rattle.tlv.proofs.U8FromRefusal.from.Goals as goal
 
 pub returns-in-NotRunning : goal.returns-in-NotRunning
 unfolding refusal_number
