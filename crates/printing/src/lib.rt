@@ -1,38 +1,106 @@
-// Text put into a buffer: words, numbers, octets, and forms with numbers in them.
-// Each function puts its text at a place and gives the place behind it. Text that finds no room is left out.
+// Text put on a page: words, numbers and octets. Text that finds no room is left out, so printing cannot fail.
 #![tactic(auto)]
 
-ghost use Rattle.std.specs.Prelude.{◌≡◌, ◌%◌, ◌≤◌, length};
-ghost use Rattle.printing.specs.Put.{Put, Numbered, glyph, hex_text};
+ghost use Rattle.std.specs.Prelude.{◌≡◌, ℕ, ◌+◌, ◌≤◌, ◌%◌, List, [], length, take};
+ghost use Rattle.printing.specs.Put.{put, Numbered, glyph, hex_text};
 
-pub mod forms;
+use std::fmt;
+use std::marker::Model;
 
-// Puts a text at `at`.
-pub fn text(out: &mut [u8], at: usize, s: &[u8]) -> usize
-    ensures { Put out.old at s.now result out.new }
-{
-    let room = out.len();
-    if room < at {
-        return at;
-    }
-    if room - at < s.len() {
-        return at;
-    }
-    let mut i: usize = 0;
-    while i < s.len() {
-        out[at + i] = s[i];
-        i += 1;
-    }
-    at + s.len()
+// A fixed number of octets, and how many of them are put.
+#[derive(Drop)]
+pub struct Page<const N: usize> {
+    octets: [u8; N],
+    length: usize,
 }
 
-// Puts a number in decimal.
-pub fn number(out: &mut [u8], at: usize, n: u64) -> usize
-    ensures { Numbered out.old at n result out.new }
-{
-    let mut digits = [0u8; 20];
-    let k = io::decimal(n, &mut digits);
-    text(out, at, &digits[..k])
+// What the programs write their output on.
+pub type Output = Page<65536>;
+
+// Clauses see what is put.
+impl<const N: usize> Model for Page<N> {
+    ghost Value = { List ℕ };
+
+    ghost view = { λ p. take p.length p.octets };
+
+    ghost invariant = { λ p. p.length ≤ N };
+}
+
+impl<const N: usize> Page<N> {
+    pub fn new() -> Self
+        ensures { result ≡ [] }
+    {
+        Page {
+            octets: [0; N],
+            length: 0,
+        }
+    }
+
+    // What is put.
+    pub fn as_slice(&self) -> &[u8]
+        ensures { result.now ≡ self.now }
+    {
+        &self.octets[..self.length]
+    }
+
+    pub fn len(&self) -> usize
+        ensures { result ≡ length self.now }
+    {
+        self.length
+    }
+
+    // For how many octets there is room.
+    pub fn room(&self) -> usize
+        ensures { length self.now + result ≡ N }
+    {
+        N - self.length
+    }
+
+    // Starts over.
+    pub fn clear(&mut self)
+        ensures { self.new ≡ [] }
+    {
+        self.length = 0;
+    }
+
+    // Puts a text.
+    pub fn text(&mut self, s: &[u8])
+        ensures { self.new ≡ put N self.old s.now }
+    {
+        if N - self.length < s.len() {
+            return;
+        }
+        let end = self.length + s.len();
+        let octets = &mut self.octets[..];
+        octets[self.length..end].copy_from_slice(s);
+        self.length = end;
+    }
+
+    // Puts what a value prints. `write!` and `writeln!` on a page call this, and so give no result that could be an error.
+    pub fn write_fmt<D: fmt::Display + Drop>(&mut self, x: D) {
+        let _ = fmt::Write::write(self, x);
+    }
+
+    // Puts a number in decimal.
+    pub fn number(&mut self, n: u64)
+        ensures { Numbered N self.old n self.new }
+    {
+        let mut digits = [0; 20];
+        let k = io::decimal(n, &mut digits);
+        self.text(&digits[..k]);
+    }
+
+    // Puts octets as pairs of hex digits.
+    pub fn hex(&mut self, s: &[u8])
+        ensures { self.new ≡ put N self.old (hex_text s.now) }
+    {
+        if self.room() / 2 < s.len() {
+            return;
+        }
+        for x in s {
+            self.text(&[digit(*x / 16), digit(*x)]);
+        }
+    }
 }
 
 // The hex digit of the lower half of an octet.
@@ -46,23 +114,11 @@ fn digit(x: u8) -> u8
     87 + d
 }
 
-// Puts octets as pairs of hex digits.
-pub fn hex(out: &mut [u8], at: usize, s: &[u8]) -> usize
-    ensures { Put out.old at (hex_text s.now) result out.new }
-{
-    let room = out.len();
-    if room < at {
-        return at;
+impl<const N: usize> fmt::Write for Page<N> {
+    ghost write_str_gives = { λ before s after. after ≡ put N before s };
+
+    fn write_str(&mut self, s: &str) -> fmt::Result {
+        self.text(s.as_bytes());
+        Ok(())
     }
-    if (room - at) / 2 < s.len() {
-        return at;
-    }
-    let mut i: usize = 0;
-    while i < s.len() {
-        let x = s[i];
-        out[at + 2 * i] = digit(x / 16);
-        out[at + 2 * i + 1] = digit(x);
-        i += 1;
-    }
-    at + 2 * s.len()
 }
