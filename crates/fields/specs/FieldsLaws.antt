@@ -1,5 +1,5 @@
 -- Laws of a setting's words, and of the octets that they give. Assumes nothing.
-use Rattle.std.specs.Prelude.{ℕ, ◌+◌, ◌-◌, ◌*◌, ◌/◌, ◌%◌, ◌≤◌, ◌<◌, ◌≡◌, Bool, true, false, not, List, length}
+use Rattle.std.specs.Prelude.{ℕ, ◌+◌, ◌-◌, ◌*◌, ◌/◌, ◌%◌, ◌≤◌, ◌<◌, ◌≡◌, Bool, true, false, not, List, length, Option, Some, None}
 use Rattle.std.proofs.Common.{arith, ◌∙◌}
 use Rattle.std.proofs.Math.Path.{sym}
 use borrow.Author.Tests.{lt-ltb, le-ltb, eq-eqb, ne_eqb, not-true, not-false}
@@ -10,14 +10,12 @@ use Rattle.grammar.specs.declared.Field.{Field}
 use Rattle.grammar.specs.declared.Field.TheVariants.{Word, Bit, Decimal, Hex2, Hex4, Selector, Parameters, Octets, End}
 use Rattle.grammar.specs.declared.Form.{Form}
 use Rattle.grammar.specs.declared.Form.TheVariants.{Groups, Flow, Applications, Plain}
-use Rattle.words.specs.declared.Number.{Number}
-use Rattle.words.specs.declared.Number.TheVariants.{Is, Not}
 use Rattle.words.specs.Text.{number, hex_digits, is_octets, pair_at}
 use Rattle.fields.specs.Fields.{name_text, selector, said, field_number, parameter_count, entry_octet, groups_octet, parameter_at}
 
 -- ---- what a form or a field is said to be
 
-module _ (f : Field) (w : List ℕ) {r : Number} where
+module _ (f : Field) (w : List ℕ) {r : Option ℕ} where
   pub field_as : (g : Field) → f ≡ g → r ≡ field_number g w → r ≡ field_number f w
   field_as g e h = rw e h
 
@@ -41,7 +39,7 @@ module _ (f : Field) (w : List ℕ) {r : Number} where
   unfolding field_number
   field_octets e g h = h ∙ rw (e, g)
 
-pub field_end : (f : Field) (w : List ℕ) → f ≡ End → Not ≡ field_number f w
+pub field_end : (f : Field) (w : List ℕ) → f ≡ End → None ≡ field_number f w
 unfolding field_number
 field_end f w e = rw e
 
@@ -69,67 +67,67 @@ parameter_plain f v i e = rw e
 -- ---- one word
 
 module _ (w : List ℕ) where
-  pub bit_long : (length w ≡ 1 → ⊥) → Not ≡ field_number Bit w
+  pub bit_long : (length w ≡ 1 → ⊥) → None ≡ field_number Bit w
   unfolding field_number
   bit_long h = simp (ne_eqb (length w) 1 h)
 
-  pub bit_read : {r : Number} → length w ≡ 1 → r ≡ number 1 w → r ≡ field_number Bit w
+  pub bit_read : {r : Option ℕ} → length w ≡ 1 → r ≡ number 1 w → r ≡ field_number Bit w
   unfolding field_number
   bit_read h e = e ∙ simp (eq-eqb (length w) 1 h)
 
-  pub hex2_long : (length w ≡ 2 → ⊥) → Not ≡ field_number Hex2 w
+  pub hex2_long : (length w ≡ 2 → ⊥) → None ≡ field_number Hex2 w
   unfolding field_number
   hex2_long h = simp (ne_eqb (length w) 2 h)
 
-  pub hex4_long : (length w ≡ 4 → ⊥) → Not ≡ field_number Hex4 w
+  pub hex4_long : (length w ≡ 4 → ⊥) → None ≡ field_number Hex4 w
   unfolding field_number
   hex4_long h = simp (ne_eqb (length w) 4 h)
 
   module _ {b : Bool} where
-    pub hex2_other : length w ≡ 2 → b ≡ hex_digits w → not b ≡ true → Not ≡ field_number Hex2 w
+    pub hex2_other : length w ≡ 2 → b ≡ hex_digits w → not b ≡ true → None ≡ field_number Hex2 w
     unfolding field_number
     hex2_other h e t = simp (eq-eqb (length w) 2 h, sym e ∙ not-true b t)
 
-    pub hex4_other : length w ≡ 4 → b ≡ hex_digits w → not b ≡ true → Not ≡ field_number Hex4 w
+    pub hex4_other : length w ≡ 4 → b ≡ hex_digits w → not b ≡ true → None ≡ field_number Hex4 w
     unfolding field_number
     hex4_other h e t = simp (eq-eqb (length w) 4 h, sym e ∙ not-true b t)
 
-    pub hex2_read : {x y : ℕ} → length w ≡ 2 → b ≡ hex_digits w → not b ≡ false → x ≡ pair_at w 0 → y ≡ x → Is y ≡ field_number Hex2 w
+    pub hex2_read : {x y : ℕ} → length w ≡ 2 → b ≡ hex_digits w → not b ≡ false → x ≡ pair_at w 0 → y ≡ x → Some y ≡ field_number Hex2 w
     unfolding field_number
     hex2_read h e t p q = simp (eq-eqb (length w) 2 h, sym e ∙ not-false b t, q, p)
 
-    pub hex4_read : {x y v z : ℕ} → length w ≡ 4 → b ≡ hex_digits w → not b ≡ false → x ≡ pair_at w 0 → y ≡ x → v ≡ pair_at w 1 → z ≡ v → Is (y * 256 + z) ≡ field_number Hex4 w
+    pub hex4_read : {x y v z : ℕ} → length w ≡ 4 → b ≡ hex_digits w → not b ≡ false → x ≡ pair_at w 0 → y ≡ x → v ≡ pair_at w 1 → z ≡ v → Some (y * 256 + z) ≡ field_number Hex4 w
     unfolding field_number
     hex4_read h e t p q m n = simp (eq-eqb (length w) 4 h, sym e ∙ not-false b t, q, p, n, m)
 
 -- ---- a selector
 
 module _ (w : List ℕ) where
-  pub selector_0 : {a : Bool} → a ≡ same w (text "ethertype") → a ≡ true → Is 0 ≡ selector w
+  pub selector_0 : {a : Bool} → a ≡ same w (text "ethertype") → a ≡ true → Some 0 ≡ selector w
   unfolding selector
   selector_0 e0 t0 = simp (sym e0 ∙ t0)
 
-  pub selector_1 : {a b : Bool} → a ≡ same w (text "ethertype") → a ≡ false → b ≡ same w (text "port") → b ≡ true → Is 1 ≡ selector w
+  pub selector_1 : {a b : Bool} → a ≡ same w (text "ethertype") → a ≡ false → b ≡ same w (text "port") → b ≡ true → Some 1 ≡ selector w
   unfolding selector
   selector_1 e0 t0 e1 t1 = simp (sym e0 ∙ t0, sym e1 ∙ t1)
 
-  pub selector_2 : {a b c : Bool} → a ≡ same w (text "ethertype") → a ≡ false → b ≡ same w (text "port") → b ≡ false → c ≡ same w (text "selector-2") → c ≡ true → Is 2 ≡ selector w
+  pub selector_2 : {a b c : Bool} → a ≡ same w (text "ethertype") → a ≡ false → b ≡ same w (text "port") → b ≡ false → c ≡ same w (text "selector-2") → c ≡ true → Some 2 ≡ selector w
   unfolding selector
   selector_2 e0 t0 e1 t1 e2 t2 = simp (sym e0 ∙ t0, sym e1 ∙ t1, sym e2 ∙ t2)
 
-  pub selector_3 : {a b c d : Bool} → a ≡ same w (text "ethertype") → a ≡ false → b ≡ same w (text "port") → b ≡ false → c ≡ same w (text "selector-2") → c ≡ false → d ≡ same w (text "selector-3") → d ≡ true → Is 3 ≡ selector w
+  pub selector_3 : {a b c d : Bool} → a ≡ same w (text "ethertype") → a ≡ false → b ≡ same w (text "port") → b ≡ false → c ≡ same w (text "selector-2") → c ≡ false → d ≡ same w (text "selector-3") → d ≡ true → Some 3 ≡ selector w
   unfolding selector
   selector_3 e0 t0 e1 t1 e2 t2 e3 t3 = simp (sym e0 ∙ t0, sym e1 ∙ t1, sym e2 ∙ t2, sym e3 ∙ t3)
 
-  pub selector_none : {a b c d : Bool} → a ≡ same w (text "ethertype") → a ≡ false → b ≡ same w (text "port") → b ≡ false → c ≡ same w (text "selector-2") → c ≡ false → d ≡ same w (text "selector-3") → d ≡ false → Not ≡ selector w
+  pub selector_none : {a b c d : Bool} → a ≡ same w (text "ethertype") → a ≡ false → b ≡ same w (text "port") → b ≡ false → c ≡ same w (text "selector-2") → c ≡ false → d ≡ same w (text "selector-3") → d ≡ false → None ≡ selector w
   unfolding selector
   selector_none e0 t0 e1 t1 e2 t2 e3 t3 = simp (sym e0 ∙ t0, sym e1 ∙ t1, sym e2 ∙ t2, sym e3 ∙ t3)
 
-pub said_is : {b : Bool} → b ≡ true → Is 0 ≡ said b
+pub said_is : {b : Bool} → b ≡ true → Some 0 ≡ said b
 unfolding said
 said_is e = rw e
 
-pub said_not : {b : Bool} → b ≡ false → Not ≡ said b
+pub said_not : {b : Bool} → b ≡ false → None ≡ said b
 unfolding said
 said_not e = rw e
 
