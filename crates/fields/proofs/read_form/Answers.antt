@@ -1,6 +1,5 @@
 -- `read_form` meets its contract: the words before `place` are what is due, and the rest decides. Assumes nothing.
-use Rattle.std.proofs.Common.{◌≡◌, length, arith, rules}
-use Rattle.std.specs.Prelude.{eqb}
+use Rattle.std.proofs.Common.{◌≡◌, length, arith}
 use Rattle.std.proofs.lemmas.Bool.Decides.{nat_tests}
 use Rattle.fields.specs.ReadingLaws.{reading_start, reading_more, reading_not, reading_end, ended_within}
 use Rattle.fields.proofs.read_form.Goals as goal
