@@ -1,9 +1,8 @@
 -- docs/FORMATS.md: words, numbers, bits and octets of a line. A line is a list of octets without its line feed.
-use Rattle.std.specs.Prelude.{ℕ, zero, suc, ◌+◌, ◌-◌, ◌*◌, ◌/◌, ◌%◌, min, Bool, true, ◌&&◌, List, [], ◌∷◌, ◌++◌, length, replicate, if◌then◌else◌}
+use Rattle.std.specs.Prelude.{ℕ, zero, suc, ◌+◌, ◌-◌, ◌*◌, ◌/◌, ◌%◌, min, Bool, true, ◌&&◌, List, [], ◌∷◌, ◌++◌, length, take, replicate, if◌then◌else◌, Option, Some, None}
 use Rattle.octets.specs.Words.{◌below◌, ◌atmost◌, ◌is◌}
 use Rattle.octets.specs.Octets.{at}
-use Rattle.words.specs.declared.Number.{Number}
-use Rattle.words.specs.declared.Number.TheVariants.{Is, Not}
+use Rattle.words.specs.declared.Held.{Held}
 
 -- ---- "Words are parted by one or more spaces; spaces before the first word and behind the last do not count."
 
@@ -49,8 +48,8 @@ decimal w = decimal_from 0 w
 unfoldable pub is_number : ℕ → List ℕ → Bool
 is_number limit w = 1 atmost length w && length w atmost 5 && decimal_digits w && decimal w atmost limit
 
-unfoldable pub number : ℕ → List ℕ → Number
-number limit w = if is_number limit w then Is (decimal w) else Not
+unfoldable pub number : ℕ → List ℕ → Option ℕ
+number limit w = if is_number limit w then Some (decimal w) else None
 
 -- ---- "Octets are pairs of lower-case hex digits with nothing between them."
 
@@ -79,6 +78,11 @@ listed (suc n) i f = f i ∷ listed n (i + 1) f
 unfoldable pub octets_of : List ℕ → List ℕ
 octets_of w = listed (min (length w / 2) 513) 0 (pair_at w)
 
--- octets as a line holds them: 513 places, zero past the last
-unfoldable pub filled : List ℕ → List ℕ
-filled p = p ++ replicate (513 - length p) 0
+-- ---- octets in memory of so many places: how many they are, and zero past the last
+
+unfoldable pub held : (places : ℕ) → List ℕ → Held places
+held places p = record { n = length p; octets = p ++ replicate (places - length p) 0 }
+
+-- the octets that count
+abbrev pub pending : {places : ℕ} → Held places → List ℕ
+pending h = take h.n h.octets

@@ -1,5 +1,5 @@
 -- Laws of words, numbers and octets. Assumes nothing.
-use Rattle.std.specs.Prelude.{ℕ, zero, suc, ◌+◌, ◌-◌, ◌*◌, ◌/◌, ◌%◌, ◌≤◌, ◌<◌, min, ◌≡◌, refl, Bool, not, ◌&&◌, List, [], ◌∷◌, ◌++◌, leb, eqb, take, drop, set, replicate, if◌then◌else◌}
+use Rattle.std.specs.Prelude.{ℕ, zero, suc, ◌+◌, ◌-◌, ◌*◌, ◌/◌, ◌%◌, ◌≤◌, ◌<◌, min, ◌≡◌, refl, Bool, not, ◌&&◌, List, [], ◌∷◌, ◌++◌, eqb, take, drop, set, replicate, if◌then◌else◌, Option, Some, None, cond, position}
 use native.Mathlib.Omega.{arith}
 use Rattle.std.proofs.Math.Numerals.{add-one}
 use Rattle.std.proofs.Common.{add-zero, zero-add, ap, ◌∙◌, drop_of_length-le, length-set, drop-cons, get_or-set_same, get_or-set_other}
@@ -7,58 +7,41 @@ use Rattle.std.proofs.Math.Nat.{add-mul-mod_self_right}
 use Rattle.std.proofs.Math.Path.{sym}
 use Rattle.std.proofs.Math.Bool.{true, false}
 use Rattle.std.specs.Bool.{beq}
+use Rattle.std.specs.Char.{is_ascii_digit}
+use Rattle.std.specs.List.{position_or_len}
+use Rattle.std.specs.Option.{unwrap_or}
+use Rattle.std.proofs.lemmas.Grind.{common_steps}
+use Rattle.std.proofs.lemmas.List.Recursion.{is_position_or_len}
+use Rattle.std.proofs.lemmas.List.Sums.{prefix_len-le-length}
 use Rattle.std.proofs.Math.ListN.{length}
 use Rattle.std.proofs.lemmas.List.{length-replicate, set_at}
-use Rattle.std.proofs.Math.Seq.{append_snoc}
-use borrow.Author.Tests.{le-leb, lt-leb, eq-eqb, ne_eqb, leb-true, eqb-true, eqb-false, not-true, not-false}
+use Rattle.std.proofs.Math.Seq.{append_snoc, take-append_seam}
+use borrow.Author.Tests.{le-leb, lt-leb, eqb-true, eqb-false}
 use Rattle.octets.specs.Words.{◌below◌, ◌atmost◌, ◌is◌}
 use Rattle.octets.specs.Octets.{at}
-use Rattle.octets.specs.Laws.{and_left}
-use Rattle.words.specs.declared.Number.TheVariants.{Is, Not}
-use Rattle.words.specs.Text.{is_digit, decimal_digits, decimal_from, decimal, is_number, number, nibble, hex_digits, is_octets, pair_at, listed, octets_of, filled}
+use Rattle.words.specs.Text.{is_digit, decimal_digits, decimal_from, decimal, is_number, number, nibble, hex_digits, pair_at, listed, octets_of, held, pending}
 use Rattle.words.specs.StepsLaws.{run, trimmed, first_word, rest, Nibbles}
 
 -- ---- digits
 
-module _ (c : ℕ) where
-  pub digit_low : c < 48 → false ≡ is_digit c
-  unfolding is_digit
-  digit_low h = simp (lt-leb 48 c h)
+pub ascii_digit : (c : ℕ) {b : Bool} → b ≡ is_ascii_digit c → b ≡ is_digit c
+unfolding is_digit
+ascii_digit c e = e
 
-  pub digit_high : 48 ≤ c → leb c 57 ≡ is_digit c
-  unfolding is_digit
-  digit_high h = simp (le-leb 48 c h)
+-- ---- a run of spaces, or of other octets: it ends at the first octet that is not of it
 
-  pub digit_least : is_digit c ≡ true → 48 ≤ c
-  unfolding is_digit
-  digit_least e = leb-true 48 c (and_left (48 atmost c) (c atmost 57) e)
+run_is : (spaces : Bool) (s : List ℕ) → run spaces s ≡ position_or_len (λ c. not (beq (c is 32) spaces)) s
+unfolding run
+run_is spaces = is_position_or_len (run spaces) (λ c. not (beq (c is 32) spaces)) refl (λ c s. step (beq (c is 32) spaces) (run spaces s))
+  where
+    step : (b : Bool) (n : ℕ) → (if b then suc n else 0) ≡ cond (not b) 0 (1 + n)
+    step true n = omega arith
+    step false n = refl
 
-  pub digit_fits : {b : Bool} → b ≡ is_digit c → not b ≡ false → 48 ≤ c
-  digit_fits {b} e t = digit_least (sym e ∙ not-false b t)
-
--- ---- a run of spaces, or of other octets: the first i are of it, and the rest decides
-
-pub record Running (spaces : Bool) (s : List ℕ) (i : ℕ) : Type 0 where
-  pub within : i ≤ length s
-  pub same : i + run spaces (drop i s) ≡ run spaces s
-
-pub running_start : (spaces : Bool) (s : List ℕ) → Running spaces s 0
-running_start spaces s = record { within = omega arith; same = zero-add (run spaces s) }
-
-module _ {spaces : Bool} {s : List ℕ} {i : ℕ} where
-  pub running_stop : Running spaces s i → i < length s → not (beq (at s i is 32) spaces) ≡ true → i ≡ run spaces s
-  unfolding run
-  running_stop r h e = sym (add-zero i) ∙ rw (drop-cons s i 0 h, not-true (beq (at s i is 32) spaces) e) at r.same
-
-  pub running_on : Running spaces s i → i < length s → not (beq (at s i is 32) spaces) ≡ false → Running spaces s (i + 1)
-  unfolding run
-  running_on r h e =
-      let t = rw (drop-cons s i 0 h, not-false (beq (at s i is 32) spaces) e) at r.same in
-      record { within = omega arith; same = rw add-one (omega arith) }
-
-  pub running_end : Running spaces s i → length s ≤ i → i ≡ run spaces s
-  unfolding run
-  running_end r h = sym (add-zero i) ∙ rw (drop_of_length-le s h) at r.same
+pub run_place : (spaces : Bool) (s : List ℕ) {o : Option ℕ} → o ≡ position (λ c. not (beq (c is 32) spaces)) s → unwrap_or o (length s) ≡ run spaces s
+run_place spaces s {o} e =
+    let p = λ (c : ℕ). not (beq (c is 32) spaces) in
+    rw (e, run_is spaces s) (grind (arith, common_steps, prefix_len-le-length (λ (c : ℕ). not (p c)) s))
 
 -- ---- numbers
 
@@ -69,11 +52,11 @@ decimal_grows n [] = omega arith
 decimal_grows n (c ∷ w) = omega (arith, decimal_grows (n * 10 + (c - 48)) w)
 
 module _ (limit : ℕ) (w : List ℕ) where
-  pub number_none : length w < 1 → Not ≡ number limit w
+  pub number_none : length w < 1 → None ≡ number limit w
   unfolding number is_number
   number_none h = simp (lt-leb 1 (length w) h)
 
-  pub number_long : 5 < length w → Not ≡ number limit w
+  pub number_long : 5 < length w → None ≡ number limit w
   unfolding number is_number
   number_long h = simp (le-leb 1 (length w) (omega arith), lt-leb (length w) 5 h)
 
@@ -90,10 +73,10 @@ pub counting_start : (limit : ℕ) (w : List ℕ) → 1 ≤ length w → length 
 counting_start limit w h k = record { some = h; few = k; within = omega arith; small = omega arith; digits = refl; same = refl }
 
 module _ {limit : ℕ} {w : List ℕ} {n i : ℕ} where
-  pub counting_not : {b : Bool} → Counting limit w n i → i < length w → b ≡ is_digit (at w i) → not b ≡ true → Not ≡ number limit w
+  pub counting_not : {b : Bool} → Counting limit w n i → i < length w → b ≡ is_digit (at w i) → b ≡ false → None ≡ number limit w
   unfolding number is_number decimal_digits
   counting_not {b} r h e t =
-      let d : is_digit (at w i) ≡ false = sym e ∙ not-true b t in
+      let d : is_digit (at w i) ≡ false = sym e ∙ t in
       let z : false ≡ decimal_digits w = rw (drop-cons w i 0 h, d) at r.digits in
       simp (le-leb 1 (length w) r.some, le-leb (length w) 5 r.few, sym z)
 
@@ -101,19 +84,19 @@ module _ {limit : ℕ} {w : List ℕ} {n i : ℕ} where
   unfolding decimal_from
   counting_here r h = rw add-one (rw (drop-cons w i 0 h) at r.same)
 
-  pub counting_above : {m : ℕ} → Counting limit w n i → i < length w → m ≡ at w i - 48 → limit < n * 10 + m → Not ≡ number limit w
+  pub counting_above : {m : ℕ} → Counting limit w n i → i < length w → m ≡ at w i - 48 → limit < n * 10 + m → None ≡ number limit w
   unfolding number is_number
   counting_above {m} r h e t =
       let k : limit < decimal w = omega (arith, counting_here r h, decimal_grows (n * 10 + (at w i - 48)) (drop (i + 1) w)) in
-      elim (decimal_digits w) as (λ d. Not ≡ (if (1 atmost length w && length w atmost 5 && d && decimal w atmost limit) then Is (decimal w) else Not)) [
+      elim (decimal_digits w) as (λ d. None ≡ (if (1 atmost length w && length w atmost 5 && d && decimal w atmost limit) then Some (decimal w) else None)) [
         | true ↦ simp (le-leb 1 (length w) r.some, le-leb (length w) 5 r.few, lt-leb (decimal w) limit k)
         | false ↦ simp (le-leb 1 (length w) r.some, le-leb (length w) 5 r.few)
       ]
 
-  pub counting_on : {m : ℕ} {b : Bool} → Counting limit w n i → i < length w → b ≡ is_digit (at w i) → not b ≡ false → m ≡ at w i - 48 → n * 10 + m ≤ limit → Counting limit w (n * 10 + m) (i + 1)
+  pub counting_on : {m : ℕ} {b : Bool} → Counting limit w n i → i < length w → b ≡ is_digit (at w i) → b ≡ true → m ≡ at w i - 48 → n * 10 + m ≤ limit → Counting limit w (n * 10 + m) (i + 1)
   unfolding decimal_digits
   counting_on {m} {b} r h e t g k =
-      let d : is_digit (at w i) ≡ true = sym e ∙ not-false b t in
+      let d : is_digit (at w i) ≡ true = sym e ∙ t in
       record {
         some = r.some;
         few = r.few;
@@ -123,7 +106,7 @@ module _ {limit : ℕ} {w : List ℕ} {n i : ℕ} where
         same = rw g (counting_here r h);
       }
 
-  pub counting_end : Counting limit w n i → length w ≤ i → Is n ≡ number limit w
+  pub counting_end : Counting limit w n i → length w ≤ i → Some n ≡ number limit w
   unfolding number is_number decimal_digits decimal_from
   counting_end r h =
       let z : true ≡ decimal_digits w = rw (drop_of_length-le w h) at r.digits in
@@ -131,26 +114,6 @@ module _ {limit : ℕ} {w : List ℕ} {n i : ℕ} where
       simp (le-leb 1 (length w) r.some, le-leb (length w) 5 r.few, sym z, sym v, le-leb n limit r.small)
 
 -- ---- hex digits
-
-module _ (c : ℕ) {b : Bool} where
-  pub nibble_digit : b ≡ is_digit c → b ≡ true → c - 48 ≡ nibble c
-  unfolding nibble
-  nibble_digit e t = simp (sym e ∙ t)
-
-  pub nibble_low : b ≡ is_digit c → b ≡ false → c < 97 → 16 ≡ nibble c
-  unfolding nibble
-  nibble_low e t h = simp (sym e ∙ t, lt-leb 97 c h)
-
-  pub nibble_high : b ≡ is_digit c → b ≡ false → 97 ≤ c → 102 < c → 16 ≡ nibble c
-  unfolding nibble
-  nibble_high e t h k = simp (sym e ∙ t, le-leb 97 c h, lt-leb c 102 k)
-
-  pub nibble_letter : b ≡ is_digit c → b ≡ false → 97 ≤ c → c ≤ 102 → c - 87 ≡ nibble c
-  unfolding nibble
-  nibble_letter e t h k = simp (sym e ∙ t, le-leb 97 c h, le-leb c 102 k)
-
-  pub nibble_fits : b ≡ is_digit c → b ≡ true → 48 ≤ c
-  nibble_fits e t = digit_least c (sym e ∙ t)
 
 -- the first i digits are good or not, and the rest decides with them
 pub record Hexing (w : List ℕ) (good : Bool) (i : ℕ) : Type 0 where
@@ -178,19 +141,6 @@ module _ {w : List ℕ} {good : Bool} {i : ℕ} where
   unfolding hex_digits
   hexing_end r h = sym (and_true good) ∙ rw (drop_of_length-le w h) at r.same
 
-module _ (w : List ℕ) (most : ℕ) where
-  pub octets_odd : (length w % 2 ≡ 0 → ⊥) → false ≡ is_octets most w
-  unfolding is_octets
-  octets_odd h = simp (ne_eqb (length w % 2) 0 h)
-
-  pub octets_many : length w % 2 ≡ 0 → most < length w / 2 → false ≡ is_octets most w
-  unfolding is_octets
-  octets_many h k = simp (eq-eqb (length w % 2) 0 h, lt-leb (length w / 2) most k)
-
-  pub octets_hex : {b : Bool} → length w % 2 ≡ 0 → length w / 2 ≤ most → b ≡ hex_digits w → b ≡ is_octets most w
-  unfolding is_octets
-  octets_hex h k e = e ∙ simp (eq-eqb (length w % 2) 0 h, le-leb (length w / 2) most k)
-
 -- ---- octets one behind the other
 
 pub length-listed : (n i : ℕ) (f : ℕ → ℕ) → length (listed n i f) ≡ n
@@ -204,10 +154,6 @@ listed_last zero i f = ap (λ (k : ℕ). f k ∷ []) (sym (add-zero i))
 listed_last (suc n) i f =
     let e : i + 1 + n ≡ i + suc n = omega arith in
     ap (λ (l : List ℕ). f i ∷ l) (listed_last n (i + 1) f ∙ ap (λ (k : ℕ). listed n (i + 1) f ++ (f k ∷ [])) e)
-
-pub octets_length : (w : List ℕ) {n : ℕ} → n ≡ min (length w / 2) 513 → n ≡ length (octets_of w)
-unfolding octets_of
-octets_length w e = e ∙ sym (length-listed (min (length w / 2) 513) 0 (pair_at w))
 
 pub record Listing (f : ℕ → ℕ) (n : ℕ) (out : List ℕ) (i : ℕ) : Type 0 where
   pub within : i ≤ n
@@ -232,13 +178,19 @@ module _ {f : ℕ → ℕ} {n : ℕ} {out : List ℕ} {i : ℕ} where
         octets = t ∙ rw (add-one, listed_last i 0 f, a) (sym (append_snoc (listed i 0 f) x (replicate (513 - suc i) 0)));
       }
 
-  pub listing_end : Listing f n out i → n ≤ i → out ≡ filled (listed n 0 f)
-  unfolding filled
-  listing_end r h = let e : i ≡ n = omega arith in r.octets ∙ rw (e, length-listed n 0 f)
+  pub listing_end : Listing f n out i → n ≤ i → record { n = n; octets = out } ≡ held 513 (listed n 0 f)
+  unfolding held
+  listing_end r h = let e : i ≡ n = omega arith in let o : out ≡ listed n 0 f ++ replicate (513 - n) 0 = r.octets ∙ rw e in rw (o, length-listed n 0 f)
 
-pub octets_end : (w : List ℕ) {n : ℕ} {out : List ℕ} {i : ℕ} → Listing (pair_at w) n out i → n ≤ i → n ≡ min (length w / 2) 513 → out ≡ filled (octets_of w)
+pub octets_end : (w : List ℕ) {n : ℕ} {out : List ℕ} {i : ℕ} → Listing (pair_at w) n out i → n ≤ i → n ≡ min (length w / 2) 513 → record { n = n; octets = out } ≡ held 513 (octets_of w)
 unfolding octets_of
-octets_end w r h e = rw e at (listing_end r h)
+octets_end w r h e = listing_end r h ∙ rw e
+
+-- ---- what is held, read back
+
+pub pending_held : (places : ℕ) (p : List ℕ) → pending (held places p) ≡ p
+unfolding held
+pending_held places p = take-append_seam p (replicate (places - length p) 0)
 
 -- ---- the values of hex digits, of which the first i stand in v
 

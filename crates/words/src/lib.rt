@@ -1,20 +1,43 @@
 // Words, numbers and octets of a line.
 #![tactic(auto)]
 
-ghost use Rattle.std.specs.Prelude.{◌≡◌, ◌+◌, ◌*◌, ◌/◌, ◌%◌, ◌<◌, min, length, drop};
-ghost use Rattle.words.specs.Text.{words, first, is_digit, number, nibble, hex_digits, pair_at, octets_of, is_octets, filled};
+ghost use Rattle.std.specs.Prelude.{◌≡◌, ◌+◌, ◌*◌, ◌/◌, ◌%◌, ◌<◌, ◌==◌, not, min, [], position, length, drop};
+ghost use Rattle.std.specs.Bool.{beq};
+ghost use Rattle.words.specs.Text.{words, first, number, nibble, hex_digits, pair_at, octets_of, is_octets, held, pending};
 ghost use Rattle.words.specs.StepsLaws.{run, trimmed, first_word, rest, Nibbles};
 
 const SPACE: u8 = 32;
 
+// No number has more digits.
+const DIGITS: usize = 5;
+
 // A longer line cannot be read.
 pub const LONGEST: usize = 1100;
 
-// A word that is to be a number.
-#[derive(Clone, Copy)]
-pub enum Number {
-    Is(usize),
-    Not,
+// Octets in memory of a fixed size: the first `n` count, and those past them are zero.
+#[derive(Clone, Copy, Debug, PartialEq, Eq)]
+pub struct Held<const N: usize> {
+    pub n: usize,
+    pub octets: [u8; N],
+}
+
+impl<const N: usize> Held<N> {
+    // No octets.
+    pub fn none() -> Self
+        ensures { result ≡ held N [] }
+    {
+        Held {
+            n: 0,
+            octets: [0; N],
+        }
+    }
+
+    // The octets that count.
+    pub fn as_slice(&self) -> &[u8]
+        ensures { result.now ≡ pending self.now }
+    {
+        octets::first(&self.octets, self.n)
+    }
 }
 
 // The low octet of a number.
@@ -24,19 +47,18 @@ pub fn low(n: usize) -> u8
     (n % 256) as u8
 }
 
+// Where the spaces in front, or the octets that are none, end.
+fn run_end(s: &[u8], spaces: bool) -> Option<usize>
+    ensures { result ≡ position (λ c. not (beq (c == 32) spaces)) s.now }
+{
+    s.iter().position(|c| (*c == SPACE) != spaces)
+}
+
 // How many octets in front are spaces, or are none.
 fn run(s: &[u8], spaces: bool) -> usize
     ensures { result ≡ run spaces s.now }
 {
-    let mut i: usize = 0;
-    while i < s.len() {
-        let here = s[i] == SPACE;
-        if here != spaces {
-            return i;
-        }
-        i += 1;
-    }
-    i
+    run_end(s, spaces).unwrap_or(s.len())
 }
 
 // What stands behind the spaces in front.
@@ -67,65 +89,41 @@ pub fn word_at(s: &[u8], n: usize) -> &[u8]
     ensures { result.now ≡ first (drop n (words s.now)) }
 {
     let mut left = s;
-    let mut i: usize = 0;
-    while i < n {
-        let next = behind(left);
-        left = next;
-        i += 1;
+    for _ in 0..n {
+        left = behind(left);
     }
     word(left)
 }
 
-fn is_digit(c: u8) -> bool
-    ensures { result ≡ is_digit c }
-{
-    if c < 48 {
-        return false;
-    }
-    c <= 57
-}
-
 // A decimal number of 1 to 5 digits, at most a limit.
-pub fn read_number(w: &[u8], limit: u16) -> Number
+pub fn read_number(w: &[u8], limit: u16) -> Option<usize>
     ensures { result ≡ number limit w.now }
 {
-    if w.len() < 1 {
-        return Number::Not;
+    if w.is_empty() || DIGITS < w.len() {
+        return None;
     }
-    if 5 < w.len() {
-        return Number::Not;
-    }
-    let most = limit as usize;
-    let mut n: usize = 0;
-    let mut i: usize = 0;
-    while i < w.len() {
-        let c = w[i];
-        if !is_digit(c) {
-            return Number::Not;
+    let mut n = 0;
+    for c in w {
+        if !c.is_ascii_digit() {
+            return None;
         }
-        n = n * 10 + octets::wide(c - 48);
-        if most < n {
-            return Number::Not;
+        n = n * 10 + usize::from(*c - b'0');
+        if usize::from(limit) < n {
+            return None;
         }
-        i += 1;
     }
-    Number::Is(n)
+    Some(n)
 }
 
 // The value of a lower-case hex digit, and 16 for any other octet.
 fn nibble(c: u8) -> u8
     ensures { result ≡ nibble c }
 {
-    if is_digit(c) {
-        return c - 48;
+    match c {
+        b'0'..=b'9' => c - b'0',
+        b'a'..=b'f' => c - b'a' + 10,
+        _ => 16,
     }
-    if c < 97 {
-        return 16;
-    }
-    if 102 < c {
-        return 16;
-    }
-    c - 87
 }
 
 // Whether all are hex digits. The loop has one way through, so that it is compiled to many digits at a time.
@@ -133,10 +131,8 @@ pub fn hex_digits(w: &[u8]) -> bool
     ensures { result ≡ hex_digits w.now }
 {
     let mut good = true;
-    let mut i: usize = 0;
-    while i < w.len() {
-        good = good & (nibble(w[i]) < 16);
-        i += 1;
+    for c in w {
+        good &= nibble(*c) < 16;
     }
     good
 }
@@ -155,34 +151,23 @@ pub fn pair_at(w: &[u8], i: usize) -> u8
 pub fn is_octets(w: &[u8], most: usize) -> bool
     ensures { result ≡ is_octets most w.now }
 {
-    let n = w.len();
-    if n % 2 != 0 {
-        return false;
-    }
-    if most < n / 2 {
-        return false;
-    }
-    hex_digits(w)
+    w.len() % 2 == 0 && w.len() / 2 <= most && hex_digits(w)
 }
 
 // How many octets a text spells, of those that a line can hold.
-pub fn octets_count(w: &[u8]) -> usize
-    ensures { (result ≡ length (octets_of w.now)) × (result ≡ min (length w.now / 2) 513) }
+fn octets_count(w: &[u8]) -> usize
+    ensures { result ≡ min (length w.now / 2) 513 }
 {
-    let n = w.len() / 2;
-    if n < 513 { n } else { 513 }
+    (w.len() / 2).min(513)
 }
 
 // The value of each of the digits that a line can hold.
 fn nibbles(w: &[u8]) -> [u8; 1026]
     ensures { Nibbles w.now result }
 {
-    let n = 2 * octets_count(w);
     let mut out = [0; 1026];
-    let mut i: usize = 0;
-    while i < n {
+    for i in 0..2 * octets_count(w) {
         out[i] = nibble(w[i]) % 16;
-        i += 1;
     }
     out
 }
@@ -191,35 +176,26 @@ fn nibbles(w: &[u8]) -> [u8; 1026]
 fn joined(high: u8, low: u8) -> u8
     ensures { result ≡ (high * 16 + low) % 256 }
 {
-    let both = octets::wide(low) * 256 + octets::wide(high);
+    let both = usize::from(low) * 256 + usize::from(high);
     (both * 4097 / 256 % 256) as u8
 }
 
 // The octets that pairs of hex digits spell.
-pub fn octets_of(w: &[u8]) -> [u8; 513]
-    ensures { result ≡ filled (octets_of w.now) }
+pub fn octets_of(w: &[u8]) -> Held<513>
+    ensures { result ≡ held 513 (octets_of w.now) }
 {
     let n = octets_count(w);
     let v = nibbles(w);
-    let mut out = [0; 513];
-    let mut i: usize = 0;
-    while i < n {
-        out[i] = joined(v[2 * i], v[2 * i + 1]);
-        i += 1;
+    let mut octets = [0; 513];
+    for i in 0..n {
+        octets[i] = joined(v[2 * i], v[2 * i + 1]);
     }
-    out
+    Held { n, octets }
 }
 
-// How many octets the frame of a line has.
-pub fn frame_length(line: &[u8]) -> usize
-    ensures { result ≡ length (octets_of (drop 2 line.now)) }
-{
-    octets_count(octets::from(line, 2))
-}
-
-// The octets of the frame of a line, zero past them.
-pub fn frame_octets(line: &[u8]) -> [u8; 513]
-    ensures { result ≡ filled (octets_of (drop 2 line.now)) }
+// The frame of a line.
+pub fn frame_of(line: &[u8]) -> Held<513>
+    ensures { result ≡ held 513 (octets_of (drop 2 line.now)) }
 {
     octets_of(octets::from(line, 2))
 }

@@ -1,9 +1,9 @@
--- `hex_digits` meets its contract: the first i octets are hex digits or not, and the rest decides with them. Assumes nothing.
+-- `hex_digits` meets its contract. Assumes nothing.
 use Rattle.words.specs.TextLaws.{hexing_on, hexing_end}
 use Rattle.words.proofs.hex_digits.Goals as goal
 
-pub loop-i-preserved : goal.loop-i-preserved
-loop-i-preserved c = search hexing_on
+pub loop-c-preserved : goal.loop-c-preserved
+loop-c-preserved c = search hexing_on
 
 pub returns : goal.returns
 returns c = search hexing_end

@@ -1,18 +1,25 @@
 -- `nibble` meets its contract. Assumes nothing.
-use Rattle.words.specs.TextLaws.{nibble_digit, nibble_low, nibble_high, nibble_letter, nibble_fits}
+use Rattle.std.proofs.Common.{arith}
+use Rattle.std.proofs.lemmas.Bool.Decides.{nat_tests}
+use Rattle.words.specs.Text.{is_digit, nibble}
 use Rattle.words.proofs.nibble.Goals as goal
 
-pub overflow_sub-result : goal.overflow_sub-result
-overflow_sub-result c = search nibble_fits
+pub returns-in-48-to-57 : goal.returns-in-48-to-57
+unfolding nibble is_digit
+returns-in-48-to-57 c = grind (arith, nat_tests)
 
-pub returns-then-is_digit : goal.returns-then-is_digit
-returns-then-is_digit c = search nibble_digit
+pub returns-in-97-to-102 : goal.returns-in-97-to-102
+unfolding nibble is_digit
+returns-in-97-to-102 c = grind (arith, nat_tests)
 
-pub returns-then-c-lt97 : goal.returns-then-c-lt97
-returns-then-c-lt97 c = search nibble_low
+pub returns-in_default : goal.returns-in_default
+unfolding nibble is_digit
+returns-in_default c = grind (arith, nat_tests)
 
-pub returns-then-c-gt102 : goal.returns-then-c-gt102
-returns-then-c-gt102 c = search nibble_high
+pub returns-in_default-2 : goal.returns-in_default-2
+unfolding nibble is_digit
+returns-in_default-2 c = grind (arith, nat_tests)
 
-pub returns : goal.returns
-returns c = search nibble_letter
+pub returns-in_default-3 : goal.returns-in_default-3
+unfolding nibble is_digit
+returns-in_default-3 c = grind (arith, nat_tests)

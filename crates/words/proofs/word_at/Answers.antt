@@ -2,8 +2,8 @@
 use Rattle.words.specs.WordsLaws.{passing_more, passing_end}
 use Rattle.words.proofs.word_at.Goals as goal
 
-pub loop-i-preserved : goal.loop-i-preserved
-loop-i-preserved c = search passing_more
+pub loop-preserved : goal.loop-preserved
+loop-preserved c = search passing_more
 
 pub returns : goal.returns
 returns c = search passing_end
