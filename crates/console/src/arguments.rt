@@ -18,36 +18,28 @@ pub enum Source {
 }
 
 // A file whose name is no text in UTF-8 cannot be opened.
-fn opened<R: Files<File = File>>(rt: &R, name: &[u8]) -> Source {
-    match str::from_utf8(name) {
-        Ok(path) => match fs::open(rt, path) {
-            Ok(file) => Source::File(file),
-            Err(_) => Source::Unopened(name.len()),
-        },
-        Err(_) => Source::Unopened(name.len()),
-    }
+fn opened<R: Files<File = File>>(rt: &R, name: &[u8]) -> Option<File> {
+    let path = str::from_utf8(name).ok()?;
+    fs::open(rt, path).ok()
 }
 
 fn source_of<R: Files<File = File>>(rt: &R, word: &[u8]) -> Source {
     if LONGEST < word.len() {
         return Source::Unknown;
     }
-    if octets::same_octets(word, b"--help") {
-        return Source::Help;
+    match word {
+        b"--help" => Source::Help,
+        [b'-', ..] => Source::Unknown,
+        name => match opened(rt, name) {
+            Some(file) => Source::File(file),
+            None => Source::Unopened(name.len()),
+        },
     }
-    if octets::octet(word, 0) == b'-' {
-        return Source::Unknown;
-    }
-    opened(rt, word)
 }
 
 // Whether there is a second argument.
 fn has_second<R: Env>(rt: &R) -> bool {
-    let mut front = [0; 1];
-    match rt.arg(2, &mut front) {
-        Err(FillError::NotPresent) => false,
-        _ => true,
-    }
+    !matches!(&rt.arg(2, &mut [0; 1]), Err(FillError::NotPresent))
 }
 
 // By at most one argument, which is put at the start of `name`.
@@ -55,11 +47,7 @@ pub fn asked<R: Env + Files<File = File>>(rt: &R, name: &mut [u8]) -> Source {
     match rt.arg(1, name) {
         Err(FillError::NotPresent) => Source::Input,
         Err(FillError::TooLong) => Source::Unknown,
-        Ok(n) => {
-            if has_second(rt) {
-                return Source::Unknown;
-            }
-            source_of(rt, octets::first(name, n))
-        }
+        Ok(_) if has_second(rt) => Source::Unknown,
+        Ok(n) => source_of(rt, octets::first(name, n)),
     }
 }

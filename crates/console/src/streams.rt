@@ -1,80 +1,99 @@
-// What the programs write, what they say of faults, and where a capture begins; each names itself.
-use crate::{Lines, Reader};
-use std::io::Print;
+// What the programs write, what they say of faults, and how far they are; each names itself.
+use std::io;
+use std::io::{IsTerminal, Print};
 
 // A terminal is told how far the reading is every so many lines.
-const SHOWN: u64 = 1000000;
+const SHOWN: u64 = 1_000_000;
 
-// Writes octets to standard error. That this fails cannot be told.
-fn tell(rt: &HostRuntime, s: &[u8]) {
-    let _ = rt.stderr().write_all(s);
+// Where a program writes, and the name that it goes by. That a write to standard error fails cannot be told.
+#[derive(Clone, Copy)]
+pub struct Streams<'a> {
+    rt: &'a HostRuntime,
+    program: &'static str,
 }
 
-// Writes octets to standard output, and where that fails says so on standard error.
-pub fn write(rt: &HostRuntime, program: &[u8], s: &[u8]) -> bool {
-    if rt.write_all(s).is_ok() {
-        return true;
+impl<'a> Streams<'a> {
+    pub fn new(rt: &'a HostRuntime, program: &'static str) -> Streams<'a> {
+        Streams { rt, program }
     }
-    tell(rt, program);
-    tell(rt, b": cannot write\n");
-    false
-}
 
-// Says on standard error that a read has failed.
-pub fn cannot_read(rt: &HostRuntime, program: &[u8]) {
-    tell(rt, program);
-    tell(rt, b": cannot read\n");
-}
-
-// Writes a usage, to standard output where help was asked for, and otherwise to standard error.
-pub fn usage(rt: &HostRuntime, program: &[u8], text: &[u8], asked: bool) {
-    if asked {
-        write(rt, program, text);
-        return;
+    // Writes octets to standard output, and where that fails says so on standard error.
+    pub fn write(&self, s: &[u8]) -> io::Result<()> {
+        let written = self.rt.write_all(s);
+        if written.is_err() {
+            let _ = eprintln!(self.rt; "{}: cannot write", self.program);
+        }
+        written
     }
-    tell(rt, text);
+
+    // Says on standard error that a read has failed.
+    pub fn cannot_read(&self) {
+        let _ = eprintln!(self.rt; "{}: cannot read", self.program);
+    }
+
+    // Writes a usage, to standard output where help was asked for, and otherwise to standard error.
+    pub fn usage(&self, text: &str, asked: bool) {
+        if asked {
+            let _ = self.write(text.as_bytes());
+        } else {
+            let _ = eprint!(self.rt; "{text}");
+        }
+    }
+
+    // Says what is wrong with the settings; where that is nothing, that they cannot be read.
+    pub fn answer(&self, why: &[u8]) {
+        if why.is_empty() {
+            self.cannot_read();
+        } else {
+            let _ = self.write(why);
+        }
+    }
+
+    // Says that the settings are bad, and on standard error why; where that is nothing, that they cannot be read.
+    pub fn refuse(&self, why: &[u8]) {
+        if self.write(b"bad settings\n").is_err() {
+            return;
+        }
+        if why.is_empty() {
+            self.cannot_read();
+        } else {
+            let _ = self.rt.stderr().write_all(why);
+        }
+    }
 }
 
-// Says that the settings are bad, and on standard error why: what stands in the output before `at`; that they cannot be read from
-// their file, where nothing stands there.
-pub fn refuse(rt: &HostRuntime, program: &[u8], output: &[u8], at: usize) {
-    if !write(rt, program, b"bad settings\n") {
-        return;
-    }
-    if at == 0 {
-        cannot_read(rt, program);
-        return;
-    }
-    tell(rt, octets::first(output, at));
+// How far the reading is: how many lines a terminal at standard error shows now.
+#[derive(Drop)]
+pub struct Progress<'a> {
+    streams: Streams<'a>,
+    terminal: bool,
+    shown: u64,
 }
 
-// What comes behind the settings: the rest of their input, or where they stand alone in a file, standard input.
-pub fn behind_settings(from: &mut Reader, l: Lines, alone: bool) -> Lines {
-    if !alone {
-        return l;
+impl<'a> Progress<'a> {
+    // Nothing is shown yet.
+    pub fn new(streams: Streams<'a>) -> Progress<'a> {
+        Progress {
+            streams,
+            terminal: streams.rt.stderr().is_terminal(),
+            shown: 0,
+        }
     }
-    from.leave_file();
-    crate::start()
-}
 
-// Shows a terminal how many lines were read, in place of what was shown before; gives what is shown now.
-pub fn show(rt: &HostRuntime, program: &[u8], terminal: bool, shown: u64, read: u64) -> u64 {
-    let lines = read / SHOWN * SHOWN;
-    if !terminal | (lines == shown) {
-        return shown;
+    // Shows how many lines were read, in place of what was shown before.
+    pub fn show(&mut self, read: u64) {
+        let lines = read / SHOWN * SHOWN;
+        if !self.terminal || lines == self.shown {
+            return;
+        }
+        let _ = eprint!(self.streams.rt; "\r{}: {lines} lines", self.streams.program);
+        self.shown = lines;
     }
-    let mut text = [0; 4096];
-    let numbers = [lines];
-    let from = printing::text(&mut text, 0, b"\r");
-    let named = printing::text(&mut text, from, program);
-    let n = printing::forms::put(&mut text, named, b": # lines", &numbers);
-    tell(rt, octets::first(&text, n));
-    lines
-}
 
-// Clears what is shown.
-pub fn clear(rt: &HostRuntime, shown: u64) {
-    if shown != 0 {
-        tell(rt, b"\r                                   \r");
+    // Clears what is shown.
+    pub fn clear(&self) {
+        if self.shown != 0 {
+            let _ = eprint!(self.streams.rt; "\r                                   \r");
+        }
     }
 }

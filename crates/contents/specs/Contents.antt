@@ -1,13 +1,17 @@
 -- 01, TLV layout: the sub-TLVs of a frame noted by their types, the control that is kept of them, and refusals 6 to 8.
-use Rattle.std.specs.Prelude.{ℕ, ◌+◌, ◌-◌, min, Bool, not, ◌||◌, List, length, take, drop, if◌then◌else◌}
+use Rattle.std.specs.Prelude.{Result, Ok, Err, ℕ, ◌+◌, ◌-◌, min, Bool, not, ◌||◌, List, length, take, drop, if◌then◌else◌}
 use Rattle.octets.specs.Words.{◌below◌, ◌is◌}
 use Rattle.octets.specs.Octets.{at, number4}
 use Rattle.tlv.specs.declared.Refusal.TheVariants.{NoControl, ControlLength, ControlVersion}
 use Rattle.contents.specs.declared.Found.{Found}
 use Rattle.contents.specs.declared.Contents.{Contents}
-use Rattle.contents.specs.declared.Reading.{Reading}
-use Rattle.contents.specs.declared.Reading.TheVariants.{Refused, Accepted}
+use Rattle.tlv.specs.declared.Rejection.{Rejection}
+use Rattle.tlv.specs.Refusals.{rejection}
 use Rattle.contents.specs.declared.Control.{Control}
+
+-- what reading a frame gives: what it has, or a refusal and its place
+abbrev pub Reading : Type 0
+Reading = Result Contents Rejection
 
 -- how often a type came, two standing for "two or more", and the value of the last
 unfoldable pub found_again : Found → ℕ → ℕ → Found
@@ -49,11 +53,11 @@ head_of x = x.start - 2
 -- 6: "no control sub-TLV"; 7: "exactly one control, length not 10"; 8: "its Oper is above its Max"
 abbrev pub judged_by : ℕ → Contents → ℕ → ℕ → Reading
 judged_by end c oper max =
-    if c.control.count is 0 then Refused NoControl end
-    else if 1 below c.control.count then Accepted c
-    else if not (c.control.length is 10) then Refused ControlLength (head_of c.control)
-    else if max below oper then Refused ControlVersion (head_of c.control)
-    else Accepted c
+    if c.control.count is 0 then Err (rejection NoControl end)
+    else if 1 below c.control.count then Ok c
+    else if not (c.control.length is 10) then Err (rejection ControlLength (head_of c.control))
+    else if max below oper then Err (rejection ControlVersion (head_of c.control))
+    else Ok c
 
 -- a sub-TLV noted whose value stands at `start` of the octets o, which are those from `base` of the whole on
 unfoldable pub noted_at : ℕ → List ℕ → Contents → ℕ → ℕ → ℕ → Contents

@@ -1,6 +1,6 @@
 -- Laws of the definitions of Contents, one for each answer of the code. Assumes nothing.
 use Prim.Native.Nat.{ℕ, ◌+◌, ◌-◌, ◌<◌, ◌≤◌, ◌^◌, min}
-use Rattle.std.specs.Prelude.{◌≡◌, Bool, true, false, not, List, length, take, drop, if◌then◌else◌}
+use Rattle.std.specs.Prelude.{Ok, Err, ◌≡◌, Bool, true, false, not, List, length, take, drop, if◌then◌else◌}
 use Rattle.std.proofs.Math.Path.{sym}
 use native.Mathlib.Omega.{arith}
 use borrow.Author.Tests.{lt-ltb, le-ltb, eq-eqb, ne_eqb}
@@ -9,7 +9,7 @@ use Rattle.octets.specs.Octets.{at, number4}
 use Rattle.tlv.specs.declared.Refusal.TheVariants.{NoControl, ControlLength, ControlVersion}
 use Rattle.contents.specs.declared.Found.{Found}
 use Rattle.contents.specs.declared.Contents.{Contents}
-use Rattle.contents.specs.declared.Reading.TheVariants.{Refused, Accepted}
+use Rattle.tlv.specs.Refusals.{rejection}
 use Rattle.contents.specs.Contents.{counts, found_again, head_of, noted_at, no_control, control_in, kept_behind, judged}
 use Rattle.std.proofs.Math.Nat.{add-sub_cancel_left}
 use Rattle.contents.specs.declared.Control.{Control}
@@ -65,16 +65,16 @@ module _ (base : ℕ) (o : List ℕ) (c : Contents) (type start n : ℕ) where
   noted_groups e x t f g = simp (x, ne_eqb type 1 t, sym e, f, eq-eqb type 2 g)
 
   pub noted_flow : {b : Bool} {x : Found} → b ≡ counts o start n → x ≡ found_again c.flow (base + start) n
-      → (type ≡ 1 → ⊥) → not b ≡ false → (type ≡ 2 → ⊥) → type ≡ 3
+      → (type ≡ 1 → ⊥) → not b ≡ false → type ≡ 3
       → record { control = c.control; groups = c.groups; flow = x; applications = c.applications } ≡ noted_at base o c type start n
   unfolding noted_at
-  noted_flow e x t f g h = simp (x, ne_eqb type 1 t, sym e, f, ne_eqb type 2 g, eq-eqb type 3 h)
+  noted_flow e x t f h = simp (x, ne_eqb type 1 t, sym e, f, ne_eqb type 2 (omega arith), eq-eqb type 3 h)
 
   pub noted_applications : {b : Bool} {x : Found} → b ≡ counts o start n → x ≡ found_again c.applications (base + start) n
-      → (type ≡ 1 → ⊥) → not b ≡ false → (type ≡ 2 → ⊥) → (type ≡ 3 → ⊥) → type ≡ 4
+      → (type ≡ 1 → ⊥) → not b ≡ false → type ≡ 4
       → record { control = c.control; groups = c.groups; flow = c.flow; applications = x } ≡ noted_at base o c type start n
   unfolding noted_at
-  noted_applications e x t f g h k = simp (x, ne_eqb type 1 t, sym e, f, ne_eqb type 2 g, ne_eqb type 3 h, eq-eqb type 4 k)
+  noted_applications e x t f k = simp (x, ne_eqb type 1 t, sym e, f, ne_eqb type 2 (omega arith), ne_eqb type 3 (omega arith), eq-eqb type 4 k)
 
   pub noted_other : {b : Bool} → b ≡ counts o start n
       → (type ≡ 1 → ⊥) → not b ≡ false → (type ≡ 2 → ⊥) → (type ≡ 3 → ⊥) → (type ≡ 4 → ⊥) → c ≡ noted_at base o c type start n
@@ -103,27 +103,27 @@ module _ (o : List ℕ) (k : Control) (type start n : ℕ) where
 -- ---- the judge
 
 module _ (end : ℕ) (c : Contents) (k : Control) where
-  pub no_control_lem : c.control.count ≡ 0 → Refused NoControl end ≡ judged end c k
+  pub no_control_lem : c.control.count ≡ 0 → Err (rejection NoControl end) ≡ judged end c k
   unfolding judged
   no_control_lem h = simp (eq-eqb c.control.count 0 h)
 
-  pub several_controls : 1 < c.control.count → Accepted c ≡ judged end c k
+  pub several_controls : 1 < c.control.count → Ok c ≡ judged end c k
   unfolding judged
   several_controls h = simp (ne_eqb c.control.count 0 (omega arith), lt-ltb 1 c.control.count h)
 
   pub control_length : {i : ℕ} → i ≡ head_of c.control → (c.control.count ≡ 0 → ⊥) → c.control.count ≤ 1 → (c.control.length ≡ 10 → ⊥)
-      → Refused ControlLength i ≡ judged end c k
+      → Err (rejection ControlLength i) ≡ judged end c k
   unfolding judged
   control_length e n h l = simp (e, ne_eqb c.control.count 0 n, le-ltb 1 c.control.count h, ne_eqb c.control.length 10 l)
 
   pub control_version : {i : ℕ} → i ≡ head_of c.control → (c.control.count ≡ 0 → ⊥) → c.control.count ≤ 1 → c.control.length ≡ 10
-      → k.max < k.oper → Refused ControlVersion i ≡ judged end c k
+      → k.max < k.oper → Err (rejection ControlVersion i) ≡ judged end c k
   unfolding judged
   control_version e n h l v =
       simp (e, ne_eqb c.control.count 0 n, le-ltb 1 c.control.count h, eq-eqb c.control.length 10 l, lt-ltb k.max k.oper v)
 
   pub one_control : (c.control.count ≡ 0 → ⊥) → c.control.count ≤ 1 → c.control.length ≡ 10
-      → k.oper ≤ k.max → Accepted c ≡ judged end c k
+      → k.oper ≤ k.max → Ok c ≡ judged end c k
   unfolding judged
   one_control n h l v =
       simp (ne_eqb c.control.count 0 n, le-ltb 1 c.control.count h, eq-eqb c.control.length 10 l, le-ltb k.max k.oper v)

@@ -5,7 +5,7 @@ ghost use Rattle.std.specs.Prelude.{◌≡◌, ◌+◌, ◌≤◌, length};
 ghost use Rattle.contents.specs.Contents.{counts, found_again, no_contents, head_of, noted_at, no_control, control_in, kept_behind, judged};
 ghost use Rattle.contents.specs.ContentsLaws.{Room};
 
-use tlv::Refusal;
+use tlv::{Refusal, Rejection};
 
 // The types of the sub-TLVs, and the length of a control's value.
 const CONTROL: u8 = 1;
@@ -44,12 +44,8 @@ pub struct Control {
     pub ack: u32,
 }
 
-// What reading a frame gives: a refusal and its place, counted from 0 at the TLV's first octet (02, E2), or what the frame has.
-#[derive(Clone, Copy)]
-pub enum Reading {
-    Refused(Refusal, usize),
-    Accepted(Contents),
-}
+// What reading a frame gives: what the frame has, or why it is refused and where it went wrong.
+pub type Reading = Result<Contents, Rejection>;
 
 // Whether a feature's sub-TLV counts for its type: one of length 4 or more has SubType 0.
 fn counts(s: &[u8], start: usize, n: usize) -> bool
@@ -66,17 +62,10 @@ fn counts(s: &[u8], start: usize, n: usize) -> bool
 fn found_again(x: Found, start: usize, n: usize) -> Found
     ensures { result ≡ found_again x start n }
 {
-    let count = x.count;
-    if count < 1 {
-        return Found {
-            count: 1,
-            start: start,
-            length: n,
-        };
-    }
+    let count = if x.count < 1 { 1 } else { 2 };
     Found {
-        count: 2,
-        start: start,
+        count,
+        start,
         length: n,
     }
 }
@@ -87,8 +76,8 @@ pub fn note(s: &[u8], base: usize, c: Contents, kind: u8, start: usize, n: usize
     requires { Room base s.now start n }
     ensures { result ≡ noted_at base s.now c kind start n }
 {
-    let mut next = c;
     let place = base + start;
+    let mut next = c;
     if kind == CONTROL {
         next.control = found_again(c.control, place, n);
         return next;
@@ -96,19 +85,13 @@ pub fn note(s: &[u8], base: usize, c: Contents, kind: u8, start: usize, n: usize
     if !counts(s, start, n) {
         return c;
     }
-    if kind == GROUPS {
-        next.groups = found_again(c.groups, place, n);
-        return next;
+    match kind {
+        GROUPS => next.groups = found_again(c.groups, place, n),
+        FLOW => next.flow = found_again(c.flow, place, n),
+        APPLICATIONS => next.applications = found_again(c.applications, place, n),
+        _ => {}
     }
-    if kind == FLOW {
-        next.flow = found_again(c.flow, place, n);
-        return next;
-    }
-    if kind == APPLICATIONS {
-        next.applications = found_again(c.applications, place, n);
-        return next;
-    }
-    c
+    next
 }
 
 pub fn no_control() -> Control
@@ -169,10 +152,7 @@ pub fn nothing_found() -> Contents
 fn head_of(x: Found) -> usize
     ensures { result ≡ head_of x }
 {
-    if x.start < 2 {
-        return 0;
-    }
-    x.start - 2
+    x.start.saturating_sub(2)
 }
 
 // Refusals 6 to 8, by what a walk kept that came to the end of the whole.
@@ -181,16 +161,25 @@ pub fn judge_control(end: usize, c: Contents, k: Control) -> Reading
 {
     let control = c.control;
     if control.count == 0 {
-        return Reading::Refused(Refusal::NoControl, end);
+        return Err(Rejection {
+            why: Refusal::NoControl,
+            place: end,
+        });
     }
     if 1 < control.count {
-        return Reading::Accepted(c);
+        return Ok(c);
     }
     if control.length != CONTROL_LENGTH {
-        return Reading::Refused(Refusal::ControlLength, head_of(control));
+        return Err(Rejection {
+            why: Refusal::ControlLength,
+            place: head_of(control),
+        });
     }
     if k.max < k.oper {
-        return Reading::Refused(Refusal::ControlVersion, head_of(control));
+        return Err(Rejection {
+            why: Refusal::ControlVersion,
+            place: head_of(control),
+        });
     }
-    Reading::Accepted(c)
+    Ok(c)
 }

@@ -1,7 +1,6 @@
 -- Octets that were written are read back: theorems on the walk and on `read_frame`, by values. Assumes nothing.
-use Rattle.std.specs.Prelude.{ℕ, ◌<◌, ◌≡◌, refl, List, ◌++◌, length}
+use Rattle.std.specs.Prelude.{Ok, ℕ, ◌<◌, ◌≡◌, refl, List, ◌++◌, length}
 use Rattle.std.proofs.Common.{arith, length-append, drop_at}
-use Rattle.contents.specs.declared.Reading.TheVariants.{Accepted}
 use Rattle.tlv.specs.Layout.{frame_head}
 use Rattle.contents.specs.Contents.{no_contents}
 use Rattle.reading.specs.Reading.{walked, read_frame}
@@ -18,7 +17,7 @@ walked_written six ts l z =
 
 -- a frame is accepted, with these values
 pub record ReadBack (o : List ℕ) (x : Values) : Type 0 where
-  pub accepted : read_frame o ≡ Accepted (walked o).contents
+  pub accepted : read_frame o ≡ Ok (walked o).contents
   pub values : values_in o (walked o).contents ≡ x
 
 pub read_written : (ts : List Tlv) → length (octets_all ts) < 508 → OneControl (noted_values ts no_values) → ReadBack (frame_of ts) (noted_values ts no_values)

@@ -1,5 +1,6 @@
 -- What reading finds lies within the octets, and what is accepted is what was walked. Assumes nothing.
-use Rattle.std.specs.Prelude.{ℕ, zero, suc, ◌+◌, ◌≤◌, ◌≡◌, refl, Bool, true, false, not, List, length, if◌then◌else◌}
+use Rattle.tlv.specs.Refusals.{rejection}
+use Rattle.std.specs.Prelude.{Ok, Err, ℕ, zero, suc, ◌+◌, ◌≤◌, ◌≡◌, refl, Bool, true, false, not, List, length, if◌then◌else◌}
 use Rattle.std.proofs.Common.{arith}
 use Rattle.octets.specs.Words.{◌below◌, ◌is◌}
 use Rattle.octets.specs.Octets.{at}
@@ -7,8 +8,7 @@ use Rattle.tlv.specs.declared.Refusal.TheVariants.{NoControl, ControlLength, Con
 use Rattle.tlv.specs.declared.Head.{Head}
 use Rattle.tlv.specs.declared.Head.TheVariants.{End, Past, SubTlv}
 use Rattle.contents.specs.declared.Contents.{Contents}
-use Rattle.contents.specs.declared.Reading.{Reading}
-use Rattle.contents.specs.declared.Reading.TheVariants.{Refused, Accepted}
+use Rattle.contents.specs.Contents.{Reading}
 use Rattle.tlv.specs.Layout.{head_at}
 use Rattle.contents.specs.Contents.{counts, found_again, noted, no_contents, head_of}
 use Rattle.reading.specs.Reading.{onward, walk_from, walked, judged_control}
@@ -59,14 +59,14 @@ walked_inside o =
 -- ---- refusals 3 to 8
 
 -- what is accepted is what was walked
-pub judged_accepts : (o : List ℕ) (c d : Contents) → judged_control o c ≡ Accepted d → c ≡ d
+pub judged_accepts : (o : List ℕ) (c d : Contents) → judged_control o c ≡ Ok d → c ≡ d
 unfolding judged_control
 judged_accepts o c d e =
     here (c.control.count is 0) (1 below c.control.count) (not (c.control.length is 10)) (at o (c.control.start + 1) below at o c.control.start) e
   where
     here : (none several short newer : Bool)
-        → (if none then Refused NoControl (length o) else if several then Accepted c else if short then Refused ControlLength (head_of c.control)
-        else if newer then Refused ControlVersion (head_of c.control) else Accepted c) ≡ Accepted d
+        → (if none then Err (rejection NoControl (length o)) else if several then Ok c else if short then Err (rejection ControlLength (head_of c.control))
+        else if newer then Err (rejection ControlVersion (head_of c.control)) else Ok c) ≡ Ok d
         → c ≡ d
     here true several short newer r = cc
     here false true short newer r = cc
@@ -75,5 +75,5 @@ judged_accepts o c d e =
     here false false false false r = cc
 
 -- for callers, after a `match`: an accepted frame's values lie within it
-pub accepted_inside : {o : List ℕ} {r : Reading} {c : Contents} → ReadPromise o r → r ≡ Accepted c → Inside o c
+pub accepted_inside : {o : List ℕ} {r : Reading} {c : Contents} → ReadPromise o r → r ≡ Ok c → Inside o c
 accepted_inside {o} {r} {c} p e = p.inside c e

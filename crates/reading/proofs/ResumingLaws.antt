@@ -1,6 +1,8 @@
 -- E6: `resumes`, a walk taken up gives the answer of the whole; and by it what `reading::read` promises. Assumes nothing.
+use Rattle.tlv.specs.declared.Rejection.{Rejection}
+use Rattle.tlv.specs.Refusals.{rejection}
 use Prim.Native.Nat.{ℕ, zero, suc, ◌+◌, ◌-◌, ◌<◌, ◌≤◌, ◌^◌}
-use Rattle.std.specs.Prelude.{◌≡◌, Bool, List, take, if◌then◌else◌}
+use Rattle.std.specs.Prelude.{Ok, Err, ◌≡◌, Bool, List, take, if◌then◌else◌}
 use Rattle.std.proofs.Common.{◌∙◌, add-zero, length-take, get_or-take, get_or-drop}
 use Rattle.std.proofs.Math.Path.{refl, sym, ap}
 use Rattle.std.proofs.Math.Bool.{true, false, not}
@@ -10,7 +12,6 @@ use Rattle.std.proofs.Math.ListN.{length, drop, length-drop}
 use Rattle.std.proofs.Math.Seq.{drop-drop}
 use Rattle.octets.specs.Words.{◌below◌, ◌is◌}
 use Rattle.octets.specs.Octets.{at}
-use Rattle.tlv.specs.declared.Refusal.{Refusal}
 use Rattle.tlv.specs.declared.Refusal.TheVariants.{NotDcbx, WrongLength, PastEnd, NoControl, ControlLength, ControlVersion}
 use Rattle.tlv.specs.declared.Head.{Head}
 use Rattle.tlv.specs.declared.Head.TheVariants.{End, Past, SubTlv}
@@ -18,8 +19,7 @@ use Rattle.contents.specs.declared.Contents.{Contents}
 use Rattle.contents.specs.declared.Control.{Control}
 use Rattle.walk.specs.declared.Walk.{Walk}
 use Rattle.walk.specs.declared.Step.TheVariants as step
-use Rattle.contents.specs.declared.Reading.{Reading}
-use Rattle.contents.specs.declared.Reading.TheVariants.{Refused, Accepted}
+use Rattle.contents.specs.Contents.{Reading}
 use Rattle.reading.specs.Reading.{Walked, onward, walk_from, walked, judged_control, read_frame}
 use Rattle.tlv.specs.Layout.{length_at, head_at, is_dcbx}
 use Rattle.contents.specs.Contents.{counts, found_again, noted, no_contents, value_of, head_of, noted_at, no_control, control_in, kept_behind, judged}
@@ -81,10 +81,10 @@ unfolding judged judged_control
 judged_kept {o} {c} {k} g = here (c.control.count is 0) (1 below c.control.count) (c.control.length is 10) refl
   where
     here : (none several ten : Bool) → (c.control.length is 10) ≡ ten
-        → (if none then Refused NoControl (length o) else if several then Accepted c else if not ten then Refused ControlLength (head_of c.control)
-        else if k.max below k.oper then Refused ControlVersion (head_of c.control) else Accepted c)
-        ≡ (if none then Refused NoControl (length o) else if several then Accepted c else if not ten then Refused ControlLength (head_of c.control)
-        else if at o (c.control.start + 1) below at o c.control.start then Refused ControlVersion (head_of c.control) else Accepted c)
+        → (if none then Err (rejection NoControl (length o)) else if several then Ok c else if not ten then Err (rejection ControlLength (head_of c.control))
+        else if k.max below k.oper then Err (rejection ControlVersion (head_of c.control)) else Ok c)
+        ≡ (if none then Err (rejection NoControl (length o)) else if several then Ok c else if not ten then Err (rejection ControlLength (head_of c.control))
+        else if at o (c.control.start + 1) below at o c.control.start then Err (rejection ControlVersion (head_of c.control)) else Ok c)
     here true several ten q = refl
     here false true ten q = refl
     here false false false q = refl
@@ -94,7 +94,7 @@ judged_kept {o} {c} {k} g = here (c.control.count is 0) (1 below c.control.count
 
 -- 5, or 6 to 8, of a walk over the whole
 abbrev answered : List ℕ → Walked → Reading
-answered o x = if x.past then Refused PastEnd x.place else judged_control o x.contents
+answered o x = if x.past then Err (rejection PastEnd x.place) else judged_control o x.contents
 
 module _ (o : List ℕ) where
   -- behind a whole sub-TLV, by places of the whole
@@ -199,15 +199,15 @@ module _ (o : List ℕ) where
 
   read_resumed : (w : Walk) → Reached w
       → read_frame o
-      ≡ (if not (is_dcbx o) then Refused NotDcbx 0
-      else if not (length_at o 0 + 2 is length o) then Refused WrongLength 0
+      ≡ (if not (is_dcbx o) then Err (rejection NotDcbx 0)
+      else if not (length_at o 0 + 2 is length o) then Err (rejection WrongLength 0)
       else finished w (drop w.at o))
   unfolding read_frame
   read_resumed w g = here (is_dcbx o) refl
     where
       here : (b : Bool) → b ≡ is_dcbx o
-          → (if not b then Refused NotDcbx 0 else if not (length_at o 0 + 2 is length o) then Refused WrongLength 0 else answered o (walked o))
-          ≡ (if not b then Refused NotDcbx 0 else if not (length_at o 0 + 2 is length o) then Refused WrongLength 0 else finished w (drop w.at o))
+          → (if not b then Err (rejection NotDcbx 0) else if not (length_at o 0 + 2 is length o) then Err (rejection WrongLength 0) else answered o (walked o))
+          ≡ (if not b then Err (rejection NotDcbx 0) else if not (length_at o 0 + 2 is length o) then Err (rejection WrongLength 0) else finished w (drop w.at o))
       here false e = refl
       here true e = rw (finished_same w (dcbx_six o e refl) g) refl
 
@@ -216,24 +216,24 @@ resumes o = record { each = λ i b. halts_each o b; control = λ w h. (reached o
 
 -- ---- the whole read: refusals 3 and 4, and then the walk begun and finished
 
-refused_promise : {o : List ℕ} {why : Refusal} {i : ℕ} → Refused why i ≡ read_frame o → ReadPromise o (Refused why i)
+refused_promise : {o : List ℕ} {x : Rejection} → Err x ≡ read_frame o → ReadPromise o (Err x)
 refused_promise {o} e = record { is = e; inside = λ c q. let z : ◌≡◌ {A = ℕ} 0 1 = cc in absurd (omega arith) }
 
-answered_inside : (o : List ℕ) (c : Contents) → answered o (walked o) ≡ Accepted c → Inside o c
+answered_inside : (o : List ℕ) (c : Contents) → answered o (walked o) ≡ Ok c → Inside o c
 answered_inside o c e = here (walked o).past e
   where
-    here : (b : Bool) → (if b then Refused PastEnd (walked o).place else judged_control o (walked o).contents) ≡ Accepted c → Inside o c
+    here : (b : Bool) → (if b then Err (rejection PastEnd (walked o).place) else judged_control o (walked o).contents) ≡ Ok c → Inside o c
     here true q = let z : ◌≡◌ {A = ℕ} 0 1 = cc in absurd (omega arith)
     here false q = rw (judged_accepts o (walked o).contents c q) at (walked_inside o)
 
 module _ (o : List ℕ) {b : Bool} where
-  pub read_other : b ≡ is_dcbx o → not b ≡ true → ReadPromise o (Refused NotDcbx 0)
+  pub read_other : {x : Rejection} → x ≡ rejection NotDcbx 0 → b ≡ is_dcbx o → not b ≡ true → ReadPromise o (Err x)
   unfolding read_frame
-  read_other e t = refused_promise (simp (sym e, t))
+  read_other x e t = refused_promise (simp (x, sym e, t))
 
-  pub read_length : {n : ℕ} → b ≡ is_dcbx o → not b ≡ false → n ≡ length_at o 0 → (n + 2 ≡ length o → ⊥) → ReadPromise o (Refused WrongLength 0)
+  pub read_length : {n : ℕ} {x : Rejection} → x ≡ rejection WrongLength 0 → b ≡ is_dcbx o → not b ≡ false → n ≡ length_at o 0 → (n + 2 ≡ length o → ⊥) → ReadPromise o (Err x)
   unfolding read_frame
-  read_length {n} e t l m = refused_promise (simp (sym e, t, sym l, ne_eqb (n + 2) (length o) m))
+  read_length {n} x e t l m = refused_promise (simp (x, sym e, t, sym l, ne_eqb (n + 2) (length o) m))
 
   pub read_ahead : {w : Walk} → b ≡ is_dcbx o → not b ≡ false → length o < 2 ^ 64 → w ≡ begun → Ahead 0 o w
   read_ahead {w} e t l x = let h : 6 ≤ length o = dcbx_six o e t in rw x (record { from = omega arith; within = omega arith; fits = omega arith })

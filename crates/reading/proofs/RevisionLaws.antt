@@ -1,5 +1,6 @@
 -- Reading for a revision: laws for each way out, and that leaving out what was found of type 4 is to skip it. Assumes nothing.
-use Rattle.std.specs.Prelude.{ℕ, zero, suc, ◌+◌, ◌≡◌, Bool, not, List, length, if◌then◌else◌}
+use Rattle.tlv.specs.Refusals.{rejection}
+use Rattle.std.specs.Prelude.{Ok, Err, ℕ, zero, suc, ◌+◌, ◌≡◌, Bool, not, List, length, if◌then◌else◌}
 use Rattle.std.proofs.Common.{arith, sym, ◌∙◌, eqb-true}
 use Rattle.std.proofs.Math.Path.{refl, ap}
 use Rattle.std.proofs.Math.Bool.{true, false}
@@ -11,9 +12,7 @@ use Rattle.tlv.specs.declared.Revision.TheVariants.{Rev101, Rev10}
 use Rattle.contents.specs.declared.Contents.{Contents}
 use Rattle.tlv.specs.declared.Head.{Head}
 use Rattle.tlv.specs.declared.Head.TheVariants.{End, Past, SubTlv}
-use Rattle.contents.specs.declared.Reading.{Reading}
-use Rattle.contents.specs.declared.Reading.TheVariants.{Refused, Accepted}
-use Rattle.tlv.specs.declared.Refusal.{Refusal}
+use Rattle.contents.specs.Contents.{Reading}
 use Rattle.tlv.specs.declared.Refusal.TheVariants.{NotDcbx, WrongLength, PastEnd, NoControl, ControlLength, ControlVersion}
 use Rattle.reading.specs.Reading.{Walked, onward, walk_from, walked, judged_control, read_frame}
 use Rattle.tlv.specs.Layout.{length_at, head_at, is_dcbx}
@@ -24,19 +23,10 @@ use Rattle.reading.specs.Revisions.{without_applications, skipping, read_for, no
 
 -- ---- the code's ways out
 
-module _ (r : Reading) where
-  pub skip_refused : {why : Refusal} {place : ℕ} → r ≡ Refused why place → Refused why place ≡ skipping r
-  unfolding skipping
-  skip_refused e = rw e refl
-
-  pub skip_accepted : {c : Contents} → r ≡ Accepted c → Accepted (without_applications c) ≡ skipping r
-  unfolding skipping
-  skip_accepted e = rw e refl
-
-inside_skipped : (o : List ℕ) (r : Reading) → ((c : Contents) → r ≡ Accepted c → Inside o c) → (c : Contents) → skipping r ≡ Accepted c → Inside o c
+inside_skipped : (o : List ℕ) (r : Reading) → ((c : Contents) → r ≡ Ok c → Inside o c) → (c : Contents) → skipping r ≡ Ok c → Inside o c
 unfolding skipping
-inside_skipped o (Refused why place) h c e = let z : ◌≡◌ {A = ℕ} 0 1 = cc in absurd (omega arith)
-inside_skipped o (Accepted d) h c e =
+inside_skipped o (Err x) h c e = let z : ◌≡◌ {A = ℕ} 0 1 = cc in absurd (omega arith)
+inside_skipped o (Ok d) h c e =
     let k : without_applications d ≡ c = cc in
     let i : Inside o d = h d refl in
     rw (← k) (record { control = i.control; groups = i.groups; flow = i.flow; applications = omega arith })
@@ -120,16 +110,16 @@ judged_skips o c =
   where
     by : (a b d e : Bool) →
         skipping
-        (if a then Refused NoControl (length o)
-        else if b then Accepted c
-        else if not d then Refused ControlLength (head_of c.control)
-        else if e then Refused ControlVersion (head_of c.control)
-        else Accepted c)
-        ≡ (if a then Refused NoControl (length o)
-        else if b then Accepted (without_applications c)
-        else if not d then Refused ControlLength (head_of c.control)
-        else if e then Refused ControlVersion (head_of c.control)
-        else Accepted (without_applications c))
+        (if a then Err (rejection NoControl (length o))
+        else if b then Ok c
+        else if not d then Err (rejection ControlLength (head_of c.control))
+        else if e then Err (rejection ControlVersion (head_of c.control))
+        else Ok c)
+        ≡ (if a then Err (rejection NoControl (length o))
+        else if b then Ok (without_applications c)
+        else if not d then Err (rejection ControlLength (head_of c.control))
+        else if e then Err (rejection ControlVersion (head_of c.control))
+        else Ok (without_applications c))
     by true b d e = refl
     by false true d e = refl
     by false false false e = refl
@@ -141,20 +131,20 @@ unfolding read_for read_frame read_but4 walked skipping
 skips o =
     let w = walk_but_4 (length o) o 6 no_contents in
     by (is_dcbx o) (length_at o 0 + 2 is length o) (walked o).past
-    ∙ (λ i. if not (is_dcbx o) then Refused NotDcbx 0
-    else if not (length_at o 0 + 2 is length o) then Refused WrongLength 0
-    else if sym w.past i then Refused PastEnd (sym w.place i)
+    ∙ (λ i. if not (is_dcbx o) then Err (rejection NotDcbx 0)
+    else if not (length_at o 0 + 2 is length o) then Err (rejection WrongLength 0)
+    else if sym w.past i then Err (rejection PastEnd (sym w.place i))
     else judged_control o (sym w.contents i))
   where
     by : (a b d : Bool) →
         skipping
-        (if not a then Refused NotDcbx 0
-        else if not b then Refused WrongLength 0
-        else if d then Refused PastEnd (walked o).place
+        (if not a then Err (rejection NotDcbx 0)
+        else if not b then Err (rejection WrongLength 0)
+        else if d then Err (rejection PastEnd (walked o).place)
         else judged_control o (walked o).contents)
-        ≡ (if not a then Refused NotDcbx 0
-        else if not b then Refused WrongLength 0
-        else if d then Refused PastEnd (walked o).place
+        ≡ (if not a then Err (rejection NotDcbx 0)
+        else if not b then Err (rejection WrongLength 0)
+        else if d then Err (rejection PastEnd (walked o).place)
         else judged_control o (without_applications (walked o).contents))
     by false b d = refl
     by true false d = refl

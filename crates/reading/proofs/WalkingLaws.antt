@@ -1,6 +1,9 @@
 -- The thin reader can be walked with: `reader_walks`. Assumes nothing.
+use Rattle.tlv.specs.declared.Refusal.{Refusal}
+use Rattle.tlv.specs.declared.Rejection.{Rejection}
+use Rattle.tlv.specs.Refusals.{rejection}
 use Prim.Native.Nat.{ℕ, zero, suc, ◌+◌, ◌≤◌}
-use Rattle.std.specs.Prelude.{◌≡◌, Bool, true, false, not, List, [], ◌∷◌, ◌↔◌, length, if◌then◌else◌}
+use Rattle.std.specs.Prelude.{Ok, Err, ◌≡◌, Bool, true, false, not, List, [], ◌∷◌, ◌↔◌, length, if◌then◌else◌}
 use Rattle.std.proofs.Common.{◌∙◌, ap, arith, eq-eqb}
 use Rattle.std.proofs.Math.Path.{refl, sym}
 use denote.Ref.{Bor}
@@ -10,11 +13,10 @@ use Rattle.tlv.specs.declared.Refusal.TheVariants.{PastEnd, NoControl, ControlLe
 use Rattle.tlv.specs.declared.Head.{Head}
 use Rattle.tlv.specs.declared.Head.TheVariants.{End, Past, SubTlv}
 use Rattle.contents.specs.declared.Contents.{Contents}
-use Rattle.contents.specs.declared.Reading.TheVariants.{Refused, Accepted}
 use Rattle.reading.specs.declared.reader.Reader.{Reader}
 use Rattle.reading.specs.Reading.{Walked, onward, walk_from, walked, judged_control, read_frame}
 use Rattle.tlv.specs.Layout.{length_at, head_at, is_dcbx}
-use Rattle.contents.specs.Contents.{noted, no_contents, head_of}
+use Rattle.contents.specs.Contents.{Reading, noted, no_contents, head_of}
 use Rattle.tlv.specs.Laws.{head_end, end_is_not_past, head_within}
 use Rattle.reading.specs.Walking.{Handed, Meets, ends, overruns, hands, noted_all, Walkable}
 
@@ -59,30 +61,34 @@ walk_on (suc k) r h = here (λ q. walk_on k q) (head_at r.src.now r.at) refl
 
 -- ---- refusal 5
 
+-- two refusals of frames that are the same are so for the same reason
+why_same : {a b : Refusal} {i j : ℕ} → (r : ◌≡◌ {A = Reading} (Err (rejection a i)) (Err (rejection b j))) → a ≡ b
+why_same {a} {b} {i} {j} r = let q : rejection a i ≡ rejection b j = cc in ap (λ (x : Rejection). x.why) q
+
 -- refusals 6 to 8 are others
-judged_within : (o : List ℕ) (c : Contents) (i : ℕ) → judged_control o c ≡ Refused PastEnd i → ⊥
+judged_within : (o : List ℕ) (c : Contents) (i : ℕ) → judged_control o c ≡ Err (rejection PastEnd i) → ⊥
 unfolding judged_control
 judged_within o c i e =
     here (c.control.count is 0) (1 below c.control.count) (c.control.length is 10) (at o (c.control.start + 1) below at o c.control.start) e
   where
     here : (none several ten newer : Bool)
-        → (if none then Refused NoControl (length o) else if several then Accepted c else if not ten then Refused ControlLength (head_of c.control)
-        else if newer then Refused ControlVersion (head_of c.control) else Accepted c) ≡ Refused PastEnd i
+        → (if none then Err (rejection NoControl (length o)) else if several then Ok c else if not ten then Err (rejection ControlLength (head_of c.control))
+        else if newer then Err (rejection ControlVersion (head_of c.control)) else Ok c) ≡ Err (rejection PastEnd i)
         → ⊥
-    here true several ten newer r = let z : ◌≡◌ {A = ℕ} 0 1 = cc in absurd (omega arith)
-    here false true ten newer r = let z : ◌≡◌ {A = ℕ} 0 1 = cc in absurd (omega arith)
-    here false false false newer r = let z : ◌≡◌ {A = ℕ} 0 1 = cc in absurd (omega arith)
-    here false false true true r = let z : ◌≡◌ {A = ℕ} 0 1 = cc in absurd (omega arith)
-    here false false true false r = let z : ◌≡◌ {A = ℕ} 0 1 = cc in absurd (omega arith)
+    here true several ten newer r = cc (why_same r)
+    here false true ten newer r = cc
+    here false false false newer r = cc (why_same r)
+    here false false true true r = cc (why_same r)
+    here false false true false r = cc
 
 past_refused : (o : List ℕ) (i : ℕ) (last : Head) → (walked o).place ≡ i → last ≡ (if (walked o).past then Past else End) → is_dcbx o ≡ true → length_at o 0 + 2 ≡ length o
-    → (last ≡ Past) ↔ (read_frame o ≡ Refused PastEnd i)
+    → (last ≡ Past) ↔ (read_frame o ≡ Err (rejection PastEnd i))
 unfolding read_frame
 past_refused o i last t e d l = simp (d, eq-eqb (length_at o 0 + 2) (length o) l) (here (walked o).past e)
   where
     here : (b : Bool) → last ≡ (if b then Past else End)
-        → (last ≡ Past) ↔ ((if b then Refused PastEnd (walked o).place else judged_control o (walked o).contents) ≡ Refused PastEnd i)
-    here true q = (λ _. ap (Refused PastEnd) t, λ _. q)
+        → (last ≡ Past) ↔ ((if b then Err (rejection PastEnd (walked o).place) else judged_control o (walked o).contents) ≡ Err (rejection PastEnd i))
+    here true q = (λ _. ap (λ (j : ℕ). Err (rejection PastEnd j)) t, λ _. q)
     here false q = (λ p. absurd (end_is_not_past (sym q ∙ p)), λ p. absurd (judged_within o (walked o).contents i p))
 
 pub reader_walks : (src : Bor (List ℕ)) → Walkable src

@@ -1,5 +1,5 @@
 -- The walk over octets in which sub-TLVs stand one behind the other, step by step. Assumes nothing.
-use Rattle.std.specs.Prelude.{ℕ, zero, suc, ◌+◌, ◌*◌, ◌/◌, ◌%◌, ◌<◌, ◌≤◌, ◌≡◌, Bool, not, ◌||◌, take, drop, if◌then◌else◌}
+use Rattle.std.specs.Prelude.{Ok, ℕ, zero, suc, ◌+◌, ◌*◌, ◌/◌, ◌%◌, ◌<◌, ◌≤◌, ◌≡◌, Bool, not, ◌||◌, take, drop, if◌then◌else◌}
 use Rattle.std.proofs.Common.{◌∙◌, arith, add-zero, length-append, length-take, length-drop, get_or-take, get_or-drop, drop-drop}
 use Rattle.std.proofs.Math.Path.{refl, sym, ap}
 use Rattle.std.proofs.Math.Bool.{true, false}
@@ -11,7 +11,6 @@ use Rattle.octets.specs.Words.{◌below◌, ◌is◌}
 use Rattle.octets.specs.Octets.{at, same}
 use Rattle.tlv.specs.declared.Head.TheVariants.{SubTlv}
 use Rattle.contents.specs.declared.Contents.{Contents}
-use Rattle.contents.specs.declared.Reading.TheVariants.{Accepted}
 use Rattle.reading.specs.Reading.{Walked, onward, walk_from, walked, judged_control, read_frame}
 use Rattle.tlv.specs.Layout.{type_at, length_at, head_at, is_dcbx}
 use Rattle.contents.specs.Contents.{counts, found_again, noted}
@@ -120,7 +119,7 @@ frame_length : (ts : List Tlv) → length (octets_all ts) < 508 → length_at (f
 frame_length ts h = omega arith
 
 -- one control whose value is readable is accepted
-control_accepted : (o : List ℕ) (c : Contents) (x : Values) → Inside o c → values_in o c ≡ x → OneControl x → judged_control o c ≡ Accepted c
+control_accepted : (o : List ℕ) (c : Contents) (x : Values) → Inside o c → values_in o c ≡ x → OneControl x → judged_control o c ≡ Ok c
 unfolding judged_control
 control_accepted o c x i e w =
     let f = c.control in
@@ -134,7 +133,7 @@ control_accepted o c x i e w =
     simp (ne_eqb f.count 0 (omega arith), le-ltb 1 f.count (omega arith), eq-eqb f.length 10 l, le-ltb (at o (f.start + 1)) (at o f.start) (omega (arith, w.versions)))
 
 pub frame_accepted : (ts : List Tlv) → length (octets_all ts) < 508 → Walks (frame_of ts) (walked (frame_of ts)) (noted_values ts no_values)
-    → OneControl (noted_values ts no_values) → read_frame (frame_of ts) ≡ Accepted (walked (frame_of ts)).contents
+    → OneControl (noted_values ts no_values) → read_frame (frame_of ts) ≡ Ok (walked (frame_of ts)).contents
 unfolding read_frame
 frame_accepted ts h w v =
     let o : List ℕ = frame_of ts in

@@ -1,13 +1,13 @@
 -- 01, TLV layout: the walk over the sub-TLVs of a whole frame, and refusals 3 to 8.
-use Rattle.std.specs.Prelude.{ℕ, zero, suc, ◌+◌, Bool, true, false, not, List, length, if◌then◌else◌}
+use Rattle.tlv.specs.Refusals.{rejection}
+use Rattle.std.specs.Prelude.{Err, ℕ, zero, suc, ◌+◌, Bool, true, false, not, List, length, if◌then◌else◌}
 use Rattle.octets.specs.Words.{◌is◌}
 use Rattle.octets.specs.Octets.{at}
 use Rattle.tlv.specs.declared.Refusal.TheVariants.{NotDcbx, WrongLength, PastEnd}
 use Rattle.tlv.specs.declared.Head.{Head}
 use Rattle.tlv.specs.declared.Head.TheVariants.{End, Past, SubTlv}
 use Rattle.contents.specs.declared.Contents.{Contents}
-use Rattle.contents.specs.declared.Reading.{Reading}
-use Rattle.contents.specs.declared.Reading.TheVariants.{Refused}
+use Rattle.contents.specs.Contents.{Reading}
 use Rattle.contents.specs.Contents.{noted, no_contents, judged_by}
 use Rattle.tlv.specs.Layout.{length_at, head_at, is_dcbx}
 
@@ -38,7 +38,7 @@ judged_control o c = judged_by (length o) c (at o c.control.start) (at o (c.cont
 -- 4: "length field is not the octets after the head"; 5: "a sub-TLV, or its head, runs past the end"
 unfoldable pub read_frame : List ℕ → Reading
 read_frame o =
-    if not (is_dcbx o) then Refused NotDcbx 0
-    else if not (length_at o 0 + 2 is length o) then Refused WrongLength 0
-    else if (walked o).past then Refused PastEnd (walked o).place
+    if not (is_dcbx o) then Err (rejection NotDcbx 0)
+    else if not (length_at o 0 + 2 is length o) then Err (rejection WrongLength 0)
+    else if (walked o).past then Err (rejection PastEnd (walked o).place)
     else judged_control o (walked o).contents

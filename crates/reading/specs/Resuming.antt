@@ -1,12 +1,12 @@
 -- 02, E6: "Halted before any sub-TLV and taken up with only the places, counts and control it kept and the octets from there on, it
 -- gives the same answer."
-use Rattle.std.specs.Prelude.{ℕ, ◌+◌, ◌≡◌, not, List, length, drop, if◌then◌else◌}
+use Rattle.tlv.specs.Refusals.{rejection}
+use Rattle.std.specs.Prelude.{Err, ℕ, ◌+◌, ◌≡◌, not, List, length, drop, if◌then◌else◌}
 use Rattle.octets.specs.Words.{◌is◌}
 use Rattle.tlv.specs.declared.Refusal.TheVariants.{NotDcbx, WrongLength}
 use Rattle.tlv.specs.declared.Head.TheVariants.{SubTlv}
 use Rattle.walk.specs.declared.Walk.{Walk}
 use Rattle.walk.specs.declared.Step.TheVariants as step
-use Rattle.contents.specs.declared.Reading.TheVariants.{Refused}
 use Rattle.tlv.specs.Layout.{length_at, head_at, is_dcbx}
 use Rattle.contents.specs.Contents.{value_of, control_in}
 use Rattle.reading.specs.Reading.{read_frame}
@@ -31,6 +31,6 @@ pub record Resumes (o : List ℕ) : Type 0 where
   pub control : (w : Walk) → Halts o w → w.control ≡ control_in (value_of o w.contents.control)
   pub same : (w : Walk) → Halts o w
       → read_frame o
-      ≡ (if not (is_dcbx o) then Refused NotDcbx 0
-      else if not (length_at o 0 + 2 is length o) then Refused WrongLength 0
+      ≡ (if not (is_dcbx o) then Err (rejection NotDcbx 0)
+      else if not (length_at o 0 + 2 is length o) then Err (rejection WrongLength 0)
       else finished w (drop w.at o))

@@ -1,13 +1,13 @@
 -- 02, E11: "Under 1.0 type 4 is skipped like any unknown type".
-use Rattle.std.specs.Prelude.{ℕ, zero, suc, ◌+◌, ◌≡◌, true, false, not, List, length, if◌then◌else◌}
+use Rattle.tlv.specs.Refusals.{rejection}
+use Rattle.std.specs.Prelude.{Ok, Err, ℕ, zero, suc, ◌+◌, ◌≡◌, true, false, not, List, length, if◌then◌else◌}
 use Rattle.octets.specs.Words.{◌is◌}
 use Rattle.tlv.specs.declared.Revision.{Revision}
 use Rattle.tlv.specs.declared.Revision.TheVariants.{Rev101, Rev10}
 use Rattle.contents.specs.declared.Contents.{Contents}
 use Rattle.tlv.specs.declared.Head.{Head}
 use Rattle.tlv.specs.declared.Head.TheVariants.{End, Past, SubTlv}
-use Rattle.contents.specs.declared.Reading.{Reading}
-use Rattle.contents.specs.declared.Reading.TheVariants.{Refused, Accepted}
+use Rattle.contents.specs.Contents.{Reading}
 use Rattle.tlv.specs.declared.Refusal.TheVariants.{NotDcbx, WrongLength, PastEnd}
 use Rattle.reading.specs.Reading.{Walked, judged_control, read_frame}
 use Rattle.tlv.specs.Layout.{length_at, head_at, is_dcbx}
@@ -18,8 +18,8 @@ abbrev pub without_applications : Contents → Contents
 without_applications c = record { control = c.control; groups = c.groups; flow = c.flow; applications = nothing_found }
 
 unfoldable pub skipping : Reading → Reading
-skipping (Refused why place) = Refused why place
-skipping (Accepted c) = Accepted (without_applications c)
+skipping (Err r) = Err r
+skipping (Ok c) = Ok (without_applications c)
 
 -- the reader, told the revision. No refusal depends on type 4, so what is found of it is left out at the end; `Skips` says that this is to
 -- skip it.
@@ -47,9 +47,9 @@ walked_but4 o = walk_but4 (length o) o 6 no_contents
 -- refusals 3 to 8 by that walk, as `read_frame` has them by the whole one
 unfoldable pub read_but4 : List ℕ → Reading
 read_but4 o =
-    if not (is_dcbx o) then Refused NotDcbx 0
-    else if not (length_at o 0 + 2 is length o) then Refused WrongLength 0
-    else if (walked_but4 o).past then Refused PastEnd (walked_but4 o).place
+    if not (is_dcbx o) then Err (rejection NotDcbx 0)
+    else if not (length_at o 0 + 2 is length o) then Err (rejection WrongLength 0)
+    else if (walked_but4 o).past then Err (rejection PastEnd (walked_but4 o).place)
     else judged_control o (walked_but4 o).contents
 
 -- reading for 1.0 is reading by that walk

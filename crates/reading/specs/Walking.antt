@@ -1,12 +1,12 @@
 -- 01, TLV layout: "The reader hands out sub-TLVs one at a time over the caller's own octets and copies none." What the thin reader
 -- promises, and what a caller meets who walks with it.
-use Rattle.std.specs.Prelude.{ℕ, ◌+◌, ◌≡◌, true, ◌↔◌, List, [], ◌∷◌, length, if◌then◌else◌}
+use Rattle.tlv.specs.Refusals.{rejection}
+use Rattle.std.specs.Prelude.{Err, ℕ, ◌+◌, ◌≡◌, true, ◌↔◌, List, [], ◌∷◌, length, if◌then◌else◌}
 use Rattle.std.specs.Borrow.{Bor}
 use Rattle.tlv.specs.declared.Refusal.TheVariants.{PastEnd}
 use Rattle.tlv.specs.declared.Head.{Head}
 use Rattle.tlv.specs.declared.Head.TheVariants.{End, Past, SubTlv}
 use Rattle.contents.specs.declared.Contents.{Contents}
-use Rattle.contents.specs.declared.Reading.TheVariants.{Refused}
 use Rattle.reading.specs.declared.reader.Reader.{Reader}
 use Rattle.tlv.specs.Layout.{length_at, head_at, is_dcbx}
 use Rattle.contents.specs.Contents.{noted, no_contents}
@@ -50,7 +50,7 @@ pub record AsWalked (o : List ℕ) (ms : List Handed) (i : ℕ) (last : Head) : 
   pub contents : (walked o).contents ≡ noted_all o ms no_contents
   pub place : (walked o).place ≡ i
   pub answer : last ≡ (if (walked o).past then Past else End)
-  pub refused : is_dcbx o ≡ true → length_at o 0 + 2 ≡ length o → (last ≡ Past) ↔ (read_frame o ≡ Refused PastEnd i)
+  pub refused : is_dcbx o ≡ true → length_at o 0 + 2 ≡ length o → (last ≡ Past) ↔ (read_frame o ≡ Err (rejection PastEnd i))
 
 -- The thin reader can be walked with: from `new` on there is a walk to an end, and each is as `walked` says.
 pub record Walkable (src : Bor (List ℕ)) : Type 0 where

@@ -5,8 +5,8 @@ ghost use Rattle.std.specs.Prelude.{◌≡◌};
 ghost use Rattle.reading.specs.Revisions.{skipping};
 ghost use Rattle.reading.specs.Promises.{ReadPromise, ReadsFor};
 
-use contents::{Found, Reading};
-use tlv::{Refusal, Revision};
+use contents::{Contents, Found, Reading};
+use tlv::{Refusal, Rejection, Revision};
 
 pub mod reader;
 
@@ -15,31 +15,29 @@ pub fn read(s: &[u8]) -> Reading
     ensures { ReadPromise s.now result }
 {
     if !tlv::is_dcbx(s) {
-        return Reading::Refused(Refusal::NotDcbx, 0);
+        return Err(Rejection::from(Refusal::NotDcbx));
     }
     if tlv::length_of(s[0], s[1]) + 2 != s.len() {
-        return Reading::Refused(Refusal::WrongLength, 0);
+        return Err(Rejection::from(Refusal::WrongLength));
     }
     walk::walk_on(s, 0, walk::begin_walk())
 }
 
 // What was found but applications.
+#[tactic(auto, unfolding(crate::specs::Revisions::skipping))]
 fn without_applications(r: Reading) -> Reading
     ensures { result ≡ skipping r }
 {
-    match r {
-        Reading::Refused(why, place) => Reading::Refused(why, place),
-        Reading::Accepted(c) => {
-            let none = Found {
-                count: 0,
-                start: 0,
-                length: 0,
-            };
-            let mut next = c;
-            next.applications = none;
-            Reading::Accepted(next)
-        }
-    }
+    let c = r?;
+    let none = Found {
+        count: 0,
+        start: 0,
+        length: 0,
+    };
+    Ok(Contents {
+        applications: none,
+        ..c
+    })
 }
 
 // Reads a frame for a port of a revision: under Rev 1.0 type 4 is skipped like any unknown type (02, E11).

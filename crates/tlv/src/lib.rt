@@ -59,6 +59,7 @@ pub enum Head {
 impl From<Refusal> for u8 {
     ghost from_gives = { λ r n. n ≡ refusal_number r };
 
+    #[tactic(auto, unfolding(crate::specs::Refusals::refusal_number))]
     fn from(r: Refusal) -> u8 {
         match r {
             Refusal::NotRunning => 1,
@@ -159,6 +160,7 @@ pub fn is_dcbx(s: &[u8]) -> bool
 }
 
 // Whether ports of a revision have the application feature.
+#[tactic(auto, unfolding(crate::specs::Revisions::has_applications))]
 pub fn has_applications(r: Revision) -> bool
     ensures { result ≡ has_applications r }
 {
@@ -177,8 +179,5 @@ pub fn put_head(out: &mut [u8], n: usize)
     let field = 4 + n;
     out[0] = DCBX * 2 + (field / 256) as u8;
     out[1] = (field % 256) as u8;
-    out[2] = FIXED[0];
-    out[3] = FIXED[1];
-    out[4] = FIXED[2];
-    out[5] = FIXED[3];
+    out[2..6].copy_from_slice(&FIXED);
 }

@@ -1,6 +1,7 @@
 -- Laws of the walk as a value, one for each answer of the code, and what its inner functions ask. Assumes nothing.
+use Rattle.tlv.specs.Refusals.{rejection}
 use Prim.Native.Nat.{ℕ, zero, suc, ◌+◌, ◌-◌, ◌<◌, ◌≤◌, ◌^◌}
-use Rattle.std.specs.Prelude.{◌≡◌, Bool, true, false, not, ◌&&◌, List, take, if◌then◌else◌}
+use Rattle.std.specs.Prelude.{Ok, Err, ◌≡◌, Bool, true, false, not, ◌&&◌, List, take, if◌then◌else◌}
 use Rattle.std.proofs.Common.{◌∙◌, arith, add-zero, get_or-drop}
 use Rattle.std.proofs.Math.Path.{refl, sym, ap}
 use Rattle.std.proofs.Math.Nat.{add-sub_cancel_left}
@@ -16,8 +17,7 @@ use Rattle.contents.specs.declared.Contents.{Contents}
 use Rattle.contents.specs.declared.Control.{Control}
 use Rattle.walk.specs.declared.Walk.{Walk}
 use Rattle.walk.specs.declared.Step.TheVariants as step
-use Rattle.contents.specs.declared.Reading.{Reading}
-use Rattle.contents.specs.declared.Reading.TheVariants.{Refused, Accepted}
+use Rattle.contents.specs.Contents.{Reading}
 use Rattle.tlv.specs.Layout.{type_at, length_at, head_at}
 use Rattle.contents.specs.Contents.{counts, found_again, head_of, noted_at, control_in, kept_behind, judged}
 use Rattle.walk.specs.Halting.{stepped, passed, finishing, finish_in, finished}
@@ -176,12 +176,12 @@ unfolding judged
 judged_any end c k l e = here (c.control.count is 0) refl
   where
     here : (b : Bool) → (c.control.count is 0) ≡ b
-        → (if b then Refused NoControl end else if 1 below c.control.count then Accepted c
-        else if not (c.control.length is 10) then Refused ControlLength (head_of c.control)
-        else if k.max below k.oper then Refused ControlVersion (head_of c.control) else Accepted c)
-        ≡ (if b then Refused NoControl end else if 1 below c.control.count then Accepted c
-        else if not (c.control.length is 10) then Refused ControlLength (head_of c.control)
-        else if l.max below l.oper then Refused ControlVersion (head_of c.control) else Accepted c)
+        → (if b then Err (rejection NoControl end) else if 1 below c.control.count then Ok c
+        else if not (c.control.length is 10) then Err (rejection ControlLength (head_of c.control))
+        else if k.max below k.oper then Err (rejection ControlVersion (head_of c.control)) else Ok c)
+        ≡ (if b then Err (rejection NoControl end) else if 1 below c.control.count then Ok c
+        else if not (c.control.length is 10) then Err (rejection ControlLength (head_of c.control))
+        else if l.max below l.oper then Err (rejection ControlVersion (head_of c.control)) else Ok c)
     here true q = refl
     here false q = let z : c.control.count ≡ 0 → ⊥ = eqb-false c.control.count 0 q in simp (lt-ltb 1 c.control.count (omega arith))
 
@@ -244,12 +244,12 @@ module _ {base : ℕ} {o : List ℕ} {w : Walk} {c : Contents} {i : ℕ} where
     pub finish_overrun : GoingOn base o w c i → d ≡ head_at o i → d ≡ Past → base + i < 2 ^ 64
     finish_overrun g e f = let h = at_past o i (sym e ∙ f) in omega (arith, g.fits)
 
-    pub finish_past : GoingOn base o w c i → d ≡ head_at o i → d ≡ Past → Refused PastEnd (base + i) ≡ finished w (drop (w.at - base) o)
+    pub finish_past : GoingOn base o w c i → d ≡ head_at o i → d ≡ Past → Err (rejection PastEnd (base + i)) ≡ finished w (drop (w.at - base) o)
     unfolding finish_in finishing
     finish_past g e f = here g.steps g.enough g.left
       where
         here : (m : ℕ) → length o ≤ i + m → finish_in m (record { at = base + i; contents = c; control = g.kept }) (drop i o) ≡ finished w (drop (w.at - base) o)
-            → Refused PastEnd (base + i) ≡ finished w (drop (w.at - base) o)
+            → Err (rejection PastEnd (base + i)) ≡ finished w (drop (w.at - base) o)
         here zero h l = absurd (end_is_not_past (head_end o i (omega arith) ∙ sym e ∙ f))
         here (suc m) h l = simp (passed_past base o i (record { at = base + i; contents = c; control = g.kept }) refl (sym e ∙ f)) at l
 

@@ -1,13 +1,13 @@
 -- 02, E6: a walk is a value; it goes over the octets from its place on, and its places are those of the whole.
-use Rattle.std.specs.Prelude.{ℕ, zero, suc, ◌+◌, ◌-◌, List, length, drop}
+use Rattle.tlv.specs.Refusals.{rejection}
+use Rattle.std.specs.Prelude.{Err, ℕ, zero, suc, ◌+◌, ◌-◌, List, length, drop}
 use Rattle.tlv.specs.declared.Refusal.TheVariants.{PastEnd}
 use Rattle.tlv.specs.declared.Head.{Head}
 use Rattle.tlv.specs.declared.Head.TheVariants.{End, Past, SubTlv}
 use Rattle.walk.specs.declared.Walk.{Walk}
 use Rattle.walk.specs.declared.Step.{Step}
 use Rattle.walk.specs.declared.Step.TheVariants as step
-use Rattle.contents.specs.declared.Reading.{Reading}
-use Rattle.contents.specs.declared.Reading.TheVariants.{Refused}
+use Rattle.contents.specs.Contents.{Reading}
 use Rattle.tlv.specs.Layout.{head_at}
 use Rattle.contents.specs.Contents.{no_contents, noted_at, no_control, kept_behind, judged}
 
@@ -38,7 +38,7 @@ end_of w o = w.at + length o
 -- all passed: 5, at the walk's place, or 6 to 8. Each sub-TLV takes two octets or more, so the length is steps enough.
 unfoldable pub finishing : Walk → List ℕ → Step → (Walk → Reading) → Reading
 finishing w o step.End next = judged (end_of w o) w.contents w.control
-finishing w o step.Past next = Refused PastEnd w.at
+finishing w o step.Past next = Err (rejection PastEnd w.at)
 finishing w o (step.Halted v) next = next v
 
 unfoldable pub finish_in : ℕ → Walk → List ℕ → Reading

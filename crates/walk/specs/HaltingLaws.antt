@@ -6,7 +6,7 @@ use Rattle.octets.specs.Words.{◌is◌}
 use Rattle.contents.specs.declared.Contents.{Contents}
 use Rattle.contents.specs.declared.Control.{Control}
 use Rattle.walk.specs.declared.Walk.{Walk}
-use Rattle.contents.specs.declared.Reading.{Reading}
+use Rattle.contents.specs.Contents.{Reading}
 use Rattle.contents.specs.Contents.{control_in, judged}
 
 -- ---- the end of a walk over o, the octets from `base` of the whole on

@@ -6,7 +6,7 @@ ghost use Rattle.walk.specs.Halting.{begun, passed, finished};
 ghost use Rattle.walk.specs.HaltingLaws.{Came, Ahead, judged_end};
 
 use contents::{Contents, Control, Reading};
-use tlv::{Head, Refusal};
+use tlv::{Head, Refusal, Rejection};
 
 // A walk over sub-TLVs, halted before one: its place, counted from 0 at the TLV's first octet, what it has found, and the last
 // control, so that no octet before its place is needed again (02, E6).
@@ -45,25 +45,18 @@ pub fn pass_sub_tlv(w: Walk, rest: &[u8]) -> Step
     requires { w.at + length rest.now < 2 ^ 64 }
     ensures { result ≡ passed w rest.now }
 {
-    let head = tlv::head_at(rest, 0);
-    match head {
-        Head::End => {
-            return Step::End;
-        }
-        Head::Past => {
-            return Step::Past;
-        }
+    match tlv::head_at(rest, 0) {
+        Head::End => Step::End,
+        Head::Past => Step::Past,
         Head::SubTlv {
             kind,
             start,
             length,
-        } => {
-            return Step::Halted(Walk {
-                at: w.at + (start + length),
-                contents: contents::note(rest, w.at, w.contents, kind, start, length),
-                control: contents::keep(rest, w.control, kind, start, length),
-            });
-        }
+        } => Step::Halted(Walk {
+            at: w.at + (start + length),
+            contents: contents::note(rest, w.at, w.contents, kind, start, length),
+            control: contents::keep(rest, w.control, kind, start, length),
+        }),
     }
 }
 
@@ -96,14 +89,16 @@ pub fn walk_on(s: &[u8], base: usize, w: Walk) -> Reading
     let mut contents = w.contents;
     let mut at = w.at - base;
     loop {
-        let head = tlv::head_at(s, at);
-        match head {
+        match tlv::head_at(s, at) {
             Head::End => {
                 return judge_end(s, base, before.count, w.control, contents);
             }
             Head::Past => {
                 let place = base + at;
-                return Reading::Refused(Refusal::PastEnd, place);
+                return Err(Rejection {
+                    why: Refusal::PastEnd,
+                    place,
+                });
             }
             Head::SubTlv {
                 kind,

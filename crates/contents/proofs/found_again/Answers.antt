@@ -2,8 +2,8 @@
 use Rattle.contents.specs.ContentsLaws.{found_first, found_more}
 use Rattle.contents.proofs.found_again.Goals as goal
 
-pub returns-then-count-lt1 : goal.returns-then-count-lt1
-returns-then-count-lt1 c = search found_first
+pub returns-then-x-lt1 : goal.returns-then-x-lt1
+returns-then-x-lt1 c = search found_first
 
-pub returns : goal.returns
-returns c = search found_more
+pub returns-else-x-lt1 : goal.returns-else-x-lt1
+returns-else-x-lt1 c = search found_more

@@ -8,14 +8,14 @@ returns-then-kind-eq-CONTROL c = search noted_control
 pub returns-then-not-counts : goal.returns-then-not-counts
 returns-then-not-counts c = search noted_skipped
 
-pub returns-then-kind-eq-GROUPS : goal.returns-then-kind-eq-GROUPS
-returns-then-kind-eq-GROUPS c = search noted_groups
+pub returns-in-2 : goal.returns-in-2
+returns-in-2 c = search noted_groups
 
-pub returns-then-kind-eq-FLOW : goal.returns-then-kind-eq-FLOW
-returns-then-kind-eq-FLOW c = search noted_flow
+pub returns-in-3 : goal.returns-in-3
+returns-in-3 c = search noted_flow
 
-pub returns-then-kind-eq-APPLICATIONS : goal.returns-then-kind-eq-APPLICATIONS
-returns-then-kind-eq-APPLICATIONS c = search noted_applications
+pub returns-in-4 : goal.returns-in-4
+returns-in-4 c = search noted_applications
 
-pub returns : goal.returns
-returns c = search noted_other
+pub returns-in_default : goal.returns-in_default
+returns-in_default c = search noted_other

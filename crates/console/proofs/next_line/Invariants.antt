@@ -1,9 +1,0 @@
--- `next_line` is safe and ends. Assumes nothing.
-use Rattle.std.proofs.Common.{◌≡◌, length}
-use Rattle.console.proofs.next_line.Given as goal
-
-abbrev pub invariant-loop-turns : goal.invariant-loop-turns
-invariant-loop-turns l = length l.buffer ≡ length l.initial.buffer
-
-abbrev pub decreases-loop-turns : goal.decreases-loop-turns
-decreases-loop-turns l = l.turns
