@@ -1,6 +1,6 @@
 -- Writing a frame and the wish to send: what their functions promise, and a law for each way out of them, with premises in the form in
 -- which a test leaves them. Assumes nothing.
-use Rattle.std.specs.Prelude.{ℕ, ◌+◌, ◌-◌, ◌/◌, ◌<◌, ◌≤◌, ◌^◌, ◌≡◌, Bool, if◌then◌else◌}
+use Rattle.std.specs.Prelude.{ℕ, ◌+◌, ◌-◌, ◌/◌, ◌<◌, ◌≤◌, ◌^◌, ◌≡◌, Bool, ◌&&◌, if◌then◌else◌, Ok, Err}
 use Rattle.std.proofs.Common.{◌∙◌, arith, length-append, take_at, drop_at}
 use Rattle.std.proofs.Math.Path.{refl, sym, ap, ap₂}
 use Rattle.std.proofs.Math.Bool.{true, false, not}
@@ -8,7 +8,8 @@ use Rattle.std.specs.Bool.{beq}
 use Rattle.std.proofs.lemmas.Bool.{false≢true}
 use mathlib.Core.List.{List, [], ◌∷◌, ◌++◌}
 use Rattle.std.proofs.Math.Nat.{zero-add}
-use borrow.Author.Tests.{not-true, not-false, lt-ltb, le-ltb, eqb-true}
+use borrow.Author.Tests.{not-true, not-false, lt-ltb, le-ltb, eqb-true, eqb-false}
+use Rattle.std.proofs.Math.Dec.{eqb}
 use Rattle.std.proofs.Math.ListN.{length, drop, take}
 use Rattle.std.proofs.lemmas.List.Edits.{sets}
 use Rattle.std.proofs.Math.Seq.{sets-eq, take-append_seam, drop-append_seam}
@@ -25,24 +26,10 @@ use Rattle.machine.specs.State.{next, value, release_tlv, differing}
 use Rattle.machine.specs.StateLaws.{Sized, changed_not}
 use Rattle.port.specs.declared.Control.{Control}
 use Rattle.port.specs.declared.Port.{Port}
-use Rattle.port.specs.declared.Written.TheVariants.{Octets, Refused}
 use Rattle.port.specs.Parts.{feature_of, running}
 use Rattle.port.specs.Writing.{control_value, released_tlv, sub_tlvs, frame, to_write, asks, written, output, Wrote}
 use Rattle.port.specs.Sound.{SoundSetting, SoundPort}
 use Rattle.port.specs.WritingLaws.{Differs, FrameLength, control_tlv, feature_tlvs}
-
--- ---- running
-
-module _ (p : Port) where
-  pub stopped_admin : not p.admin ≡ true → false ≡ running p
-  stopped_admin t = simp (not-true p.admin t)
-
-  module _ (a : not p.admin ≡ false) where
-    pub stopped_receive : not p.receive ≡ true → false ≡ running p
-    stopped_receive t = simp (not-false p.admin a, not-true p.receive t)
-
-    pub running_transmit : not p.receive ≡ false → p.transmit ≡ running p
-    running_transmit t = simp (not-false p.admin a, not-false p.receive t)
 
 -- ---- writing
 
@@ -71,7 +58,7 @@ module _ (p : Port) (out : List ℕ) {a b c : List ℕ} where
   frame_put {n} l ea eb ec = let e : n - 6 ≡ length (sub_tlvs p) = omega (arith, l.is) in ec ∙ rw (eb, ea, e) refl
 
 module _ (p : Port) (out : List ℕ) {r : Bool} (e : r ≡ running p) where
-  pub write_stopped : not r ≡ true → Wrote p out (Refused NotRunning) out
+  pub write_stopped : not r ≡ true → Wrote p out (Err NotRunning) out
   unfolding written output
   write_stopped t = let s : running p ≡ false = sym e ∙ not-true r t in record { answers = simp s; octets = simp s }
 
@@ -79,13 +66,13 @@ module _ (p : Port) (out : List ℕ) {r : Bool} (e : r ≡ running p) where
     runs : running p ≡ true
     runs = sym e ∙ not-false r t
 
-    pub write_short : length out < n → Wrote p out (Refused ShortOutput) out
+    pub write_short : length out < n → Wrote p out (Err ShortOutput) out
     unfolding written output
     write_short h =
         let k = lt-ltb (length out) (length (frame p)) (omega (arith, l.is)) in
         record { answers = simp (runs, k); octets = simp (runs, k) }
 
-    pub write_whole : {now : List ℕ} → n ≤ length out → now ≡ sets out 0 (frame p) → Wrote p out (Octets n) now
+    pub write_whole : {now : List ℕ} → n ≤ length out → now ≡ sets out 0 (frame p) → Wrote p out (Ok n) now
     unfolding written output
     write_whole h q =
         let k = le-ltb (length out) (length (frame p)) (omega (arith, l.is)) in
@@ -126,6 +113,20 @@ module _ (a b : Control) where
 
   pub controls_same : a.oper ≡ b.oper → a.max ≡ b.max → a.seq ≡ b.seq → a.ack ≡ b.ack → true ≡ same (control_value a) (control_value b)
   controls_same o m s k = rw (o, m, s, k) (sym (same_refl (control_value b)))
+
+  -- tested one after the other
+  pub controls_are : a.seq < 2 ^ 32 → b.seq < 2 ^ 32 → a.ack < 2 ^ 32 → b.ack < 2 ^ 32
+      → {r : Bool} → r ≡ (((eqb a.oper b.oper && eqb a.max b.max) && eqb a.seq b.seq) && eqb a.ack b.ack)
+      → r ≡ same (control_value a) (control_value b)
+  controls_are i j k l e = e ∙ by (eqb a.oper b.oper) (eqb a.max b.max) (eqb a.seq b.seq) (eqb a.ack b.ack) refl refl refl refl
+    where
+      by : (o m s n : Bool) → eqb a.oper b.oper ≡ o → eqb a.max b.max ≡ m → eqb a.seq b.seq ≡ s → eqb a.ack b.ack ≡ n
+          → (((o && m) && s) && n) ≡ same (control_value a) (control_value b)
+      by false m s n eo em es en = controls_oper (eqb-false a.oper b.oper eo)
+      by true false s n eo em es en = controls_max (eqb-false a.max b.max em)
+      by true true false n eo em es en = controls_seq i j (eqb-false a.seq b.seq es)
+      by true true true false eo em es en = controls_ack k l (eqb-false a.ack b.ack en)
+      by true true true true eo em es en = controls_same (eqb-true a.oper b.oper eo) (eqb-true a.max b.max em) (eqb-true a.seq b.seq es) (eqb-true a.ack b.ack en)
 
 -- ---- two releases of a feature
 

@@ -1,3 +1,4 @@
+pub mod Types
 pub mod Parts
 pub mod Writing
 pub mod WritingLaws

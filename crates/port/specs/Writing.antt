@@ -1,6 +1,6 @@
 -- 01, TLV layout, Writing: "control, then the advertised features in ascending type". In place of "The frame always carries the present settings"
 -- 02, E5: "The port shall keep, beside each feature's present state, the sub-TLV last released, and write that one".
-use Rattle.std.specs.Prelude.{ℕ, ◌+◌, Bool, not, ◌≡◌, List, [], ◌∷◌, ◌++◌, length, drop, if◌then◌else◌}
+use Rattle.std.specs.Prelude.{ℕ, ◌+◌, Bool, not, ◌≡◌, List, [], ◌∷◌, ◌++◌, length, drop, if◌then◌else◌, Ok, Err}
 use Rattle.octets.specs.Words.{◌below◌}
 use Rattle.octets.specs.Octets.{octets4, same, head}
 use Rattle.tlv.specs.Layout.{fixed_octets}
@@ -10,8 +10,7 @@ use Rattle.parameters.specs.declared.Feature.TheVariants.{Groups, Flow, Applicat
 use Rattle.machine.specs.State.{release_tlv}
 use Rattle.port.specs.declared.Control.{Control}
 use Rattle.port.specs.declared.Port.{Port}
-use Rattle.port.specs.declared.Written.{Written}
-use Rattle.port.specs.declared.Written.TheVariants.{Octets, Refused}
+use Rattle.port.specs.Types.{Written}
 use Rattle.port.specs.Parts.{feature_of, released_of, running}
 
 -- "Type 1, control, length 10: Oper version, Max version, SeqNo (4), AckNo (4)."
@@ -39,9 +38,9 @@ asks before after = not (same (to_write before) (to_write after))
 -- A request to write: the answer, and the lent output afterwards. "A written frame changes only its own octets of the output."
 unfoldable pub written : Port → List ℕ → Written
 written p out =
-    if not (running p) then Refused NotRunning
-    else if length out below length (frame p) then Refused ShortOutput
-    else Octets (length (frame p))
+    if not (running p) then Err NotRunning
+    else if length out below length (frame p) then Err ShortOutput
+    else Ok (length (frame p))
 
 unfoldable pub output : Port → List ℕ → List ℕ
 output p out =

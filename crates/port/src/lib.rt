@@ -4,12 +4,12 @@
 
 use feature::{Release, State};
 use notices::Kind;
-use tlv::{Refusal, Revision};
+use tlv::{Refusal, Rejection, Revision};
 
 pub mod writing;
 
 // The four flags of a port.
-#[derive(Clone, Copy)]
+#[derive(Clone, Copy, Debug, PartialEq, Eq)]
 pub enum Flag {
     Admin,
     Receive,
@@ -64,20 +64,12 @@ pub struct Versions {
     pub applications: u8,
 }
 
-// What an event gives: done, with the wish to send; or refused, with the place where a frame went wrong, and 0 beside every other
+// What an event gives: the wish to send; or why it was refused, with the place where a frame went wrong, and 0 beside every other
 // refusal (02, E2).
-#[derive(Clone, Copy)]
-pub enum Answer {
-    Done(bool),
-    Refused(Refusal, usize),
-}
+pub type Answer = Result<bool, Rejection>;
 
 // At most one notice of the port and one for each feature.
-#[derive(Clone, Copy)]
-pub enum Raised {
-    Nothing,
-    Notice(Kind),
-}
+pub type Raised = Option<Kind>;
 
 #[derive(Clone, Copy)]
 pub struct Notices {
@@ -95,8 +87,4 @@ pub struct Event {
 }
 
 // What a request to write gives: the number of octets written, or a refusal.
-#[derive(Clone, Copy)]
-pub enum Written {
-    Octets(usize),
-    Refused(Refusal),
-}
+pub type Written = Result<usize, Refusal>;

@@ -21,13 +21,7 @@ const FEATURES: usize = 18;
 pub fn running(p: Port) -> bool
     ensures { result ≡ running p }
 {
-    if !p.admin {
-        return false;
-    }
-    if !p.receive {
-        return false;
-    }
-    p.transmit
+    p.admin && p.receive && p.transmit
 }
 
 // How many octets the frame has.
@@ -101,33 +95,21 @@ pub fn write(p: Port, out: &mut [u8]) -> Written
     ensures { Wrote p out.old result out.new }
 {
     if !running(p) {
-        return Written::Refused(Refusal::NotRunning);
+        return Err(Refusal::NotRunning);
     }
     let n = frame_length(p);
     if out.len() < n {
-        return Written::Refused(Refusal::ShortOutput);
+        return Err(Refusal::ShortOutput);
     }
     put_frame(p, out);
-    Written::Octets(n)
+    Ok(n)
 }
 
 // Whether two controls are written alike.
 pub fn same_control(a: Control, b: Control) -> bool
     ensures { result ≡ same (control_value a) (control_value b) }
 {
-    if a.oper != b.oper {
-        return false;
-    }
-    if a.max != b.max {
-        return false;
-    }
-    if a.seq != b.seq {
-        return false;
-    }
-    if a.ack != b.ack {
-        return false;
-    }
-    true
+    (a.oper, a.max, a.seq, a.ack) == (b.oper, b.max, b.seq, b.ack)
 }
 
 // Whether a feature's sub-TLVs differ, in length or in an octet. Each is short.
