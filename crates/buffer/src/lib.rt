@@ -8,37 +8,7 @@ pub fn number2(s: &[u8], at: usize) -> usize
     ensures { result < 65536 }
 {
     let behind = octets::from(s, at);
-    octets::wide(octets::octet(behind, 0)) * 256 + octets::wide(octets::octet(behind, 1))
-}
-
-// One octet; gives the place behind it.
-pub fn put(out: &mut [u8], at: usize, x: u8) -> usize {
-    if at < out.len() {
-        out[at] = x;
-        return at + 1;
-    }
-    at
-}
-
-pub fn put_all(out: &mut [u8], at: usize, s: &[u8]) -> usize {
-    let mut next = at;
-    let mut i: usize = 0;
-    while i < s.len() {
-        next = put(out, next, s[i]);
-        i += 1;
-    }
-    next
-}
-
-// A number, high octet first.
-pub fn put4(out: &mut [u8], at: usize, n: u32) -> usize {
-    let octets = [
-        (n / 256 / 256 / 256 % 256) as u8,
-        (n / 256 / 256 % 256) as u8,
-        (n / 256 % 256) as u8,
-        (n % 256) as u8,
-    ];
-    put_all(out, at, &octets)
+    usize::from(u16::from_be_bytes([octets::octet(behind, 0), octets::octet(behind, 1)]))
 }
 
 // The end of a part of `room` octets from `at`, or of what is there where that is less. The caller has found `at` to
@@ -47,8 +17,56 @@ pub fn part_end(all: usize, at: usize, room: usize) -> usize
     requires { at ≤ all }
     ensures { (at ≤ result) × (result ≤ all) }
 {
-    if room < all - at {
-        return at + room;
+    at + room.min(all - at)
+}
+
+// A lent output, and how many octets of it are written.
+#[derive(Drop)]
+pub struct Writer<'a> {
+    out: &'a mut [u8],
+    at: usize,
+}
+
+impl<'a> Writer<'a> {
+    pub fn new(out: &'a mut [u8]) -> Writer<'a> {
+        Writer { out: out, at: 0 }
     }
-    all
+
+    // How many octets are written.
+    pub fn at(&self) -> usize {
+        self.at
+    }
+
+    pub fn is_full(&self) -> bool {
+        self.out.len() <= self.at
+    }
+
+    // One octet.
+    pub fn put(&mut self, x: u8) {
+        let at = self.at;
+        let out = &mut *self.out;
+        if at < out.len() {
+            out[at] = x;
+            self.at = at + 1;
+        }
+    }
+
+    pub fn put_all(&mut self, s: &[u8]) {
+        for x in s {
+            self.put(*x);
+        }
+    }
+
+    // A number, high octet first.
+    pub fn put4(&mut self, n: u32) {
+        self.put_all(&n.to_be_bytes());
+    }
+
+    // The next `room` octets as they are, or what is left where that is less, count as written, and are lent.
+    pub fn lend(&mut self, room: usize) -> &mut [u8] {
+        let from = self.at.min(self.out.len());
+        let end = part_end(self.out.len(), from, room);
+        self.at = end;
+        &mut self.out[from..end]
+    }
 }

@@ -1,5 +1,5 @@
 -- docs/FORMATS.md: the words of a setting as they are read, and the parameters that they give.
-use Rattle.std.specs.Prelude.{ℕ, ◌+◌, ◌-◌, ◌*◌, ◌/◌, ◌%◌, Bool, true, false, ◌&&◌, List, [], ◌∷◌, length, set, replicate, if◌then◌else◌}
+use Rattle.std.specs.Prelude.{ℕ, ◌+◌, ◌-◌, ◌*◌, ◌/◌, ◌%◌, Bool, true, false, ◌&&◌, List, [], ◌∷◌, length, set, replicate, if◌then◌else◌, Option, Some, None, Result, Ok, Err}
 use Rattle.octets.specs.Words.{◌below◌, ◌is◌}
 use Rattle.octets.specs.Octets.{at, same}
 use Rattle.octets.specs.Texts.{text}
@@ -8,9 +8,8 @@ use Rattle.grammar.specs.declared.Field.{Field}
 use Rattle.grammar.specs.declared.Field.TheVariants.{Word, Bit, Decimal, Hex2, Hex4, Selector, Parameters, Octets, End}
 use Rattle.grammar.specs.declared.Form.{Form}
 use Rattle.grammar.specs.declared.Form.TheVariants.{Groups, Flow, Applications, Plain}
+use Rattle.fields.specs.declared.Undue.{Undue}
 use Rattle.fields.specs.declared.Values.{Values}
-use Rattle.words.specs.declared.Number.{Number}
-use Rattle.words.specs.declared.Number.TheVariants.{Is, Not}
 use Rattle.words.specs.Text.{number, hex_digits, is_octets, pair_at, listed}
 use Rattle.grammar.specs.Grammar.{due, may_end}
 
@@ -32,46 +31,55 @@ name_text Name.Classes = text "classes"
 name_text Name.Revision = text "revision"
 
 -- "SELECTOR is ethertype (selector 0), port (1), selector-2 or selector-3"
-unfoldable pub selector : List ℕ → Number
+unfoldable pub selector : List ℕ → Option ℕ
 selector w =
-    if same w (text "ethertype") then Is 0
-    else if same w (text "port") then Is 1
-    else if same w (text "selector-2") then Is 2
-    else if same w (text "selector-3") then Is 3
-    else Not
+    if same w (text "ethertype") then Some 0
+    else if same w (text "port") then Some 1
+    else if same w (text "selector-2") then Some 2
+    else if same w (text "selector-3") then Some 3
+    else None
 
 -- a word that says no number is 0 where it is what is due
-unfoldable pub said : Bool → Number
-said true = Is 0
-said false = Not
+unfoldable pub said : Bool → Option ℕ
+said true = Some 0
+said false = None
 
 -- what a word says, if it is what is due. "A bit is 0 or 1 and nothing else." "the parameters as octets: none, or 1 to 507"
-unfoldable pub field_number : Field → List ℕ → Number
+unfoldable pub field_number : Field → List ℕ → Option ℕ
 field_number (Word n) w = said (same w (name_text n))
-field_number Bit w = if length w is 1 then number 1 w else Not
+field_number Bit w = if length w is 1 then number 1 w else None
 field_number (Decimal limit) w = number limit w
-field_number Hex2 w = if length w is 2 && hex_digits w then Is (pair_at w 0) else Not
-field_number Hex4 w = if length w is 4 && hex_digits w then Is (pair_at w 0 * 256 + pair_at w 1) else Not
+field_number Hex2 w = if length w is 2 && hex_digits w then Some (pair_at w 0) else None
+field_number Hex4 w = if length w is 4 && hex_digits w then Some (pair_at w 0 * 256 + pair_at w 1) else None
 field_number Selector w = selector w
 field_number Parameters w = said (same w (text "parameters"))
 field_number Octets w = said (is_octets 507 w)
-field_number End w = Not
+field_number End w = None
 
 -- ---- the words of a setting
 
-unfoldable pub onward : Number → Values → (ℕ → Values) → Values
-onward Not stop more = stop
-onward (Is n) stop more = more n
+abbrev pub values : ℕ → List ℕ → Values
+values i v = record { place = i; numbers = v }
+
+-- the words that were read, where another is due
+abbrev pub undue : Values → Field → Result Values Undue
+undue v d = Err (record { read = v; due = d })
+
+-- the line ends where a field is due: it may, or not
+unfoldable pub ended : Bool → Values → Field → Result Values Undue
+ended true v d = Ok v
+ended false v d = undue v d
+
+unfoldable pub onward : Option ℕ → Result Values Undue → (ℕ → Result Values Undue) → Result Values Undue
+onward None stop more = stop
+onward (Some n) stop more = more n
 
 -- the words from place i on, up to the first that is not what is due; v has the numbers of those before
-unfoldable pub values_from : Form → ℕ → List ℕ → List (List ℕ) → Values
-values_from f i v [] = record { good = may_end (due f i); place = i; due = due f i; numbers = v }
-values_from f i v (w ∷ ws) =
-    onward (field_number (due f i) w)
-    (record { good = false; place = i; due = due f i; numbers = v })
-    (λ n. values_from f (i + 1) (set v i n) ws)
+unfoldable pub values_from : Form → ℕ → List ℕ → List (List ℕ) → Result Values Undue
+values_from f i v [] = ended (may_end (due f i)) (values i v) (due f i)
+values_from f i v (w ∷ ws) = onward (field_number (due f i) w) (undue (values i v) (due f i)) (λ n. values_from f (i + 1) (set v i n) ws)
 
-unfoldable pub values_of : Form → List (List ℕ) → Values
+unfoldable pub values_of : Form → List (List ℕ) → Result Values Undue
 values_of f ws = values_from f 0 (replicate 58 0) ws
 
 -- ---- the parameters that they give, as octets (01, TLV layout)

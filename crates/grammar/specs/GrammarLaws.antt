@@ -1,58 +1,18 @@
--- Laws of what is due, and of where a line may end. Assumes nothing.
-use Rattle.std.specs.Prelude.{ℕ, zero, suc, ◌+◌, ◌-◌, ◌*◌, ◌%◌, ◌≤◌, ◌<◌, ◌≡◌, true, false, List, [], ◌∷◌, ◌++◌, take, drop, replicate}
+-- Laws of what is due. Assumes nothing.
+use Rattle.std.specs.Prelude.{ℕ, zero, suc, ◌+◌, ◌-◌, ◌*◌, ◌%◌, ◌≤◌, ◌<◌, ◌≡◌, List, [], ◌∷◌, ◌++◌, take, drop, replicate}
 use native.Mathlib.Omega.{arith}
 use Rattle.std.proofs.Math.Path.{refl, sym, ap}
 use Rattle.std.proofs.Common.{◌∙◌, get_or-take, get_or-drop, get_or-append-add}
 use Rattle.std.proofs.Math.ListN.{get_or, get_or-eq_default}
 use Rattle.std.proofs.lemmas.List.{get_or-replicate}
-use Rattle.grammar.specs.declared.Name.{Name}
 use Rattle.grammar.specs.declared.Field.{Field}
-use Rattle.grammar.specs.declared.Field.TheVariants.{Word, Bit, Decimal, Hex2, Hex4, Selector, Parameters, Octets, End}
+use Rattle.grammar.specs.declared.Field.TheVariants.{Bit, Decimal, Hex2, Hex4, Selector, End}
 use Rattle.grammar.specs.declared.Form.{Form}
 use Rattle.grammar.specs.declared.Form.TheVariants.{Groups, Flow, Applications, Plain}
-use Rattle.grammar.specs.Grammar.{switches, repeated, entry_fields, fields, due, may_end}
+use Rattle.grammar.specs.Grammar.{switches, repeated, entry_fields, fields, due}
 
 pub due_as : (f g : Form) (i : ℕ) {r : Field} → f ≡ g → r ≡ due g i → r ≡ due f i
 due_as f g i e h = rw e h
-
--- ---- where a line may end
-
-module _ (f : Field) where
-  pub end_word : {n : Name} → f ≡ Word n → false ≡ may_end f
-  unfolding may_end
-  end_word e = rw e
-
-  pub end_bit : f ≡ Bit → false ≡ may_end f
-  unfolding may_end
-  end_bit e = rw e
-
-  pub end_decimal : {limit : ℕ} → f ≡ Decimal limit → false ≡ may_end f
-  unfolding may_end
-  end_decimal e = rw e
-
-  pub end_hex2 : f ≡ Hex2 → false ≡ may_end f
-  unfolding may_end
-  end_hex2 e = rw e
-
-  pub end_hex4 : f ≡ Hex4 → false ≡ may_end f
-  unfolding may_end
-  end_hex4 e = rw e
-
-  pub end_selector : f ≡ Selector → true ≡ may_end f
-  unfolding may_end
-  end_selector e = rw e
-
-  pub end_parameters : f ≡ Parameters → true ≡ may_end f
-  unfolding may_end
-  end_parameters e = rw e
-
-  pub end_octets : f ≡ Octets → false ≡ may_end f
-  unfolding may_end
-  end_octets e = rw e
-
-  pub end_is : f ≡ End → true ≡ may_end f
-  unfolding may_end
-  end_is e = rw e
 
 -- ---- what is due
 
@@ -98,61 +58,17 @@ due_bit (suc (suc (suc (suc (suc zero))))) h a b c = refl
 due_bit (suc (suc (suc (suc (suc (suc i)))))) h a b c = absurd (omega arith)
 
 module _ (i : ℕ) where
-  pub due_advertise : i ≡ 0 → Word Name.Advertise ≡ get_or switches i End
-  unfolding switches
-  due_advertise e = rw e
-
-  pub due_enable : i ≡ 2 → Word Name.Enable ≡ get_or switches i End
-  unfolding switches
-  due_enable e = rw e
-
-  pub due_willing : i ≡ 4 → Word Name.Willing ≡ get_or switches i End
-  unfolding switches
-  due_willing e = rw e
-
-  pub due_priorities : i ≡ 6 → Word Name.Priorities ≡ due Groups i
-  unfolding due fields switches
-  due_priorities e = rw e
-
   pub due_group : 6 ≤ i → (i ≡ 6 → ⊥) → i < 15 → Decimal 15 ≡ due Groups i
   unfolding due fields switches
   due_group h n k = at-run (fields Groups) (Decimal 15) 7 8 i refl (omega arith) (omega arith)
-
-  pub due_percentages : i ≡ 15 → Word Name.Percentages ≡ due Groups i
-  unfolding due fields switches
-  due_percentages e = rw e
 
   pub due_percentage : 15 ≤ i → (i ≡ 15 → ⊥) → i < 24 → Decimal 255 ≡ due Groups i
   unfolding due fields switches
   due_percentage h n k = at-run (fields Groups) (Decimal 255) 16 8 i refl (omega arith) (omega arith)
 
-  pub due_classes : i ≡ 24 → Word Name.Classes ≡ due Groups i
+  pub due_behind : 26 ≤ i → End ≡ due Groups i
   unfolding due fields switches
-  due_classes e = rw e
-
-  pub due_number : i ≡ 25 → Decimal 255 ≡ due Groups i
-  unfolding due fields switches
-  due_number e = rw e
-
-  pub due_behind : 24 ≤ i → (i ≡ 24 → ⊥) → (i ≡ 25 → ⊥) → End ≡ due Groups i
-  unfolding due fields switches
-  due_behind h a b = sym (get_or-eq_default (fields Groups) End {n = i} (omega arith))
-
-  pub due_mask : i ≡ 6 → Word Name.Mask ≡ due Flow i
-  unfolding due fields switches
-  due_mask e = rw e
-
-  pub due_digits : i ≡ 7 → Hex2 ≡ due Flow i
-  unfolding due fields switches
-  due_digits e = rw e
-
-  pub due_flow_classes : i ≡ 8 → Word Name.Classes ≡ due Flow i
-  unfolding due fields switches
-  due_flow_classes e = rw e
-
-  pub due_flow_number : i ≡ 9 → Decimal 255 ≡ due Flow i
-  unfolding due fields switches
-  due_flow_number e = rw e
+  due_behind h = sym (get_or-eq_default (fields Groups) End {n = i} (omega arith))
 
   pub due_flow_behind : 6 ≤ i → (i ≡ 6 → ⊥) → (i ≡ 7 → ⊥) → (i ≡ 8 → ⊥) → (i ≡ 9 → ⊥) → End ≡ due Flow i
   unfolding due fields switches
@@ -180,14 +96,6 @@ module _ (i : ℕ) where
   pub due_entries_behind : 57 ≤ i → End ≡ due Applications i
   unfolding due fields switches repeated
   due_entries_behind h = sym (get_or-eq_default (fields Applications) End {n = i} h)
-
-  pub due_parameters : i ≡ 6 → Parameters ≡ due Plain i
-  unfolding due fields switches
-  due_parameters e = rw e
-
-  pub due_octets : i ≡ 7 → Octets ≡ due Plain i
-  unfolding due fields switches
-  due_octets e = rw e
 
   pub due_plain_behind : 6 ≤ i → (i ≡ 6 → ⊥) → (i ≡ 7 → ⊥) → End ≡ due Plain i
   unfolding due fields switches

@@ -1,11 +1,11 @@
 // What each word of a setting is to be, behind `max N` or behind `set` and its feature.
 #![tactic(auto)]
 
-ghost use Rattle.std.specs.Prelude.{◌≡◌, ◌<◌, get_or};
+ghost use Rattle.std.specs.Prelude.{◌≡◌, ◌≤◌, ◌<◌, get_or};
 ghost use Rattle.grammar.specs.Grammar.{switches, due, may_end};
 
 // The words of settings that stand as they are.
-#[derive(Clone, Copy)]
+#[derive(Clone, Copy, Debug, PartialEq, Eq)]
 pub enum Name {
     Control,
     Groups,
@@ -24,7 +24,7 @@ pub enum Name {
 
 // What a word is to be: a fixed word, a bit, a number up to a limit, two or four hex digits, or the octets of parameters. Where
 // a selector or `parameters` is due the line may also end, and nothing stands behind its end.
-#[derive(Clone, Copy)]
+#[derive(Clone, Copy, Debug, PartialEq, Eq)]
 pub enum Field {
     Word(Name),
     Bit,
@@ -38,7 +38,7 @@ pub enum Field {
 }
 
 // The words of a setting: those of each feature, or its parameters as octets.
-#[derive(Clone, Copy)]
+#[derive(Clone, Copy, Debug, PartialEq, Eq)]
 pub enum Form {
     Groups,
     Flow,
@@ -47,101 +47,83 @@ pub enum Form {
 }
 
 // `advertise B enable B willing B`
+#[tactic(auto, using(crate::specs::GrammarLaws::due_bit), unfolding(crate::specs::Grammar::switches))]
 fn due_switch(i: usize) -> Field
     requires { i < 6 }
     ensures { result ≡ get_or switches i Field.End }
 {
-    if i == 0 {
-        return Field::Word(Name::Advertise);
+    match i {
+        0 => Field::Word(Name::Advertise),
+        2 => Field::Word(Name::Enable),
+        4 => Field::Word(Name::Willing),
+        _ => Field::Bit,
     }
-    if i == 2 {
-        return Field::Word(Name::Enable);
-    }
-    if i == 4 {
-        return Field::Word(Name::Willing);
-    }
-    Field::Bit
 }
 
+#[tactic(auto, using(crate::specs::GrammarLaws::due_switch, crate::specs::GrammarLaws::due_group, crate::specs::GrammarLaws::due_percentage, crate::specs::GrammarLaws::due_behind), unfolding(crate::specs::Grammar::due, crate::specs::Grammar::fields, crate::specs::Grammar::switches))]
 fn due_groups(i: usize) -> Field
     ensures { result ≡ due Form.Groups i }
 {
-    if i < 6 {
-        return due_switch(i);
+    match i {
+        0..=5 => due_switch(i),
+        6 => Field::Word(Name::Priorities),
+        7..=14 => Field::Decimal(15),
+        15 => Field::Word(Name::Percentages),
+        16..=23 => Field::Decimal(255),
+        24 => Field::Word(Name::Classes),
+        25 => Field::Decimal(255),
+        _ => Field::End,
     }
-    if i == 6 {
-        return Field::Word(Name::Priorities);
-    }
-    if i < 15 {
-        return Field::Decimal(15);
-    }
-    if i == 15 {
-        return Field::Word(Name::Percentages);
-    }
-    if i < 24 {
-        return Field::Decimal(255);
-    }
-    if i == 24 {
-        return Field::Word(Name::Classes);
-    }
-    if i == 25 {
-        return Field::Decimal(255);
-    }
-    Field::End
 }
 
+#[tactic(auto, using(crate::specs::GrammarLaws::due_switch, crate::specs::GrammarLaws::due_flow_behind), unfolding(crate::specs::Grammar::due, crate::specs::Grammar::fields, crate::specs::Grammar::switches))]
 fn due_flow(i: usize) -> Field
     ensures { result ≡ due Form.Flow i }
 {
-    if i < 6 {
-        return due_switch(i);
+    match i {
+        0..=5 => due_switch(i),
+        6 => Field::Word(Name::Mask),
+        7 => Field::Hex2,
+        8 => Field::Word(Name::Classes),
+        9 => Field::Decimal(255),
+        _ => Field::End,
     }
-    if i == 6 {
-        return Field::Word(Name::Mask);
-    }
-    if i == 7 {
-        return Field::Hex2;
-    }
-    if i == 8 {
-        return Field::Word(Name::Classes);
-    }
-    if i == 9 {
-        return Field::Decimal(255);
-    }
-    Field::End
 }
 
+#[tactic(auto, using(crate::specs::GrammarLaws::due_switch, crate::specs::GrammarLaws::due_entries_behind))]
 fn due_applications(i: usize) -> Field
     ensures { result ≡ due Form.Applications i }
 {
-    if i < 6 {
-        return due_switch(i);
+    match i {
+        0..=5 => due_switch(i),
+        6..=56 => due_entry(i),
+        _ => Field::End,
     }
-    if 57 <= i {
-        return Field::End;
-    }
-    if i % 3 == 0 {
-        return Field::Selector;
-    }
-    if i % 3 == 1 {
-        return Field::Hex4;
-    }
-    Field::Hex2
 }
 
+// `SELECTOR HHHH HH` for each entry.
+#[tactic(auto, using(crate::specs::GrammarLaws::due_selector, crate::specs::GrammarLaws::due_id, crate::specs::GrammarLaws::due_map))]
+fn due_entry(i: usize) -> Field
+    requires { (6 ≤ i) × (i < 57) }
+    ensures { result ≡ due Form.Applications i }
+{
+    match i % 3 {
+        0 => Field::Selector,
+        1 => Field::Hex4,
+        _ => Field::Hex2,
+    }
+}
+
+#[tactic(auto, using(crate::specs::GrammarLaws::due_switch, crate::specs::GrammarLaws::due_plain_behind), unfolding(crate::specs::Grammar::due, crate::specs::Grammar::fields, crate::specs::Grammar::switches))]
 fn due_plain(i: usize) -> Field
     ensures { result ≡ due Form.Plain i }
 {
-    if i < 6 {
-        return due_switch(i);
+    match i {
+        0..=5 => due_switch(i),
+        6 => Field::Parameters,
+        7 => Field::Octets,
+        _ => Field::End,
     }
-    if i == 6 {
-        return Field::Parameters;
-    }
-    if i == 7 {
-        return Field::Octets;
-    }
-    Field::End
 }
 
 // What the word at place `i` of a setting is to be.
@@ -157,18 +139,9 @@ pub fn due(f: Form, i: usize) -> Field
 }
 
 // Whether a line may end where a field is due.
+#[tactic(auto, unfolding(crate::specs::Grammar::may_end))]
 pub fn may_end(f: Field) -> bool
     ensures { result ≡ may_end f }
 {
-    match f {
-        Field::Word(_) => false,
-        Field::Bit => false,
-        Field::Decimal(_) => false,
-        Field::Hex2 => false,
-        Field::Hex4 => false,
-        Field::Selector => true,
-        Field::Parameters => true,
-        Field::Octets => false,
-        Field::End => true,
-    }
+    matches!(f, Field::Selector | Field::Parameters | Field::End)
 }

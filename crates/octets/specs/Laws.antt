@@ -1,13 +1,15 @@
 -- Laws of octets and of lists that several crates use. Assumes nothing.
-use Rattle.std.specs.Prelude.{ℕ, suc, ◌+◌, ◌-◌, ◌≤◌, ◌<◌, ◌≡◌, refl, Bool, true, false, ◌&&◌, List, [], ◌∷◌, ◌++◌, set, take, drop}
-use Rattle.std.proofs.Common.{arith, add-zero, add-suc, suc-add, ap, ◌∙◌, length-set, length-drop, length-take-le, take-suc, take_all, eq-eqb, eqb-true}
+use Rattle.std.specs.Cmp.Lexicographic.{pointwise}
+use borrow.Rule.Slice.PartMut.{put_mid}
+use Rattle.std.specs.Prelude.{nat_eq, ◌/◌, ◌%◌, ℕ, suc, ◌+◌, ◌≤◌, ◌<◌, ◌≡◌, refl, Bool, true, false, ◌&&◌, List, [], ◌∷◌, ◌++◌, set, take}
+use Rattle.std.proofs.Common.{arith, add-zero, add-suc, suc-add, ap, ◌∙◌, length-set, length-take-le, take-suc, take_all, eq-eqb, eqb-true}
 use Rattle.std.proofs.Math.Numerals.{add-one}
 use Rattle.std.proofs.Math.Path.{sym}
-use Rattle.std.proofs.Math.ListN.{length, get_or-eq_default, drop_of_length-le}
-use Rattle.std.proofs.Math.Seq.{drop-cons, drop-length, take-nil}
-use Rattle.std.proofs.lemmas.List.Edits.{sets}
+use Rattle.std.proofs.Math.ListN.{length, get_or-eq_default}
+use Rattle.std.proofs.lemmas.List.Edits.{sets, sets-eq}
+use Rattle.std.proofs.lemmas.Slice.{put_mid-paste}
 use Rattle.octets.specs.Words.{◌is◌}
-use Rattle.octets.specs.Octets.{at, same}
+use Rattle.octets.specs.Octets.{at, same, octets4}
 
 pub past_end : (o : List ℕ) (i : ℕ) → length o ≤ i → 0 ≡ at o i
 past_end o i h = sym (get_or-eq_default o 0 h)
@@ -50,41 +52,16 @@ unlike (x ∷ a) [] n = refl
 unlike (x ∷ a) (y ∷ b) n =
     elim (x is y) as (λ t. false ≡ (t && same a b)) [ true ↦ unlike a b (λ e. n (ap suc e)) | false ↦ refl ]
 
--- whether the first i are alike, and what is left decide
-pub record Alike (a b : List ℕ) (alike : Bool) (i : ℕ) : Type 0 where
-  pub long : length a ≡ length b
-  pub below : i ≤ length a
-  pub left : (alike && same (drop i a) (drop i b)) ≡ same a b
+-- what `==` of slices says
+pointwise_same : (a b : List ℕ) → pointwise nat_eq a b ≡ same a b
+unfolding same
+pointwise_same [] [] = refl
+pointwise_same [] (y ∷ b) = refl
+pointwise_same (x ∷ a) [] = refl
+pointwise_same (x ∷ a) (y ∷ b) = rw (pointwise_same a b) refl
 
-pub alike_start : {a b : List ℕ} → length a ≡ length b → Alike a b true 0
-alike_start l = record { long = l; below = omega arith; left = refl }
-
-and_three : (a b c : Bool) → (a && b && c) ≡ (a && (b && c))
-and_three true b c = refl
-and_three false b c = refl
-
-and_nothing : (a : Bool) → (a && true) ≡ a
-and_nothing true = refl
-and_nothing false = refl
-
-module _ {a b : List ℕ} {alike : Bool} {i : ℕ} where
-  pub alike_more : Alike a b alike i → i < length a → Alike a b (alike && at a i is at b i) (i + 1)
-  unfolding same
-  alike_more p h =
-      let k : i < length b = omega (arith, p.long) in
-      record {
-        long = p.long;
-        below = omega arith;
-        left =
-            and_three alike (at a i is at b i) (same (drop (i + 1) a) (drop (i + 1) b))
-            ∙ rw add-one (rw (drop-cons a i 0 h, drop-cons b i 0 k) at p.left);
-      }
-
-  pub alike_end : Alike a b alike i → length a ≤ i → alike ≡ same a b
-  unfolding same
-  alike_end p h =
-      let k : length b ≤ i = omega (arith, p.long) in
-      sym (and_nothing alike) ∙ (rw (drop_of_length-le a h, drop_of_length-le b k) at p.left)
+pub same_by : (a b : List ℕ) {r : Bool} → r ≡ pointwise nat_eq a b → r ≡ same a b
+same_by a b e = e ∙ pointwise_same a b
 
 -- ---- runs of stores
 
@@ -117,17 +94,14 @@ putting_more {before} {out} {s} {place} {i} p h =
 pub putting_end : {before out s : List ℕ} {place i : ℕ} → Putting before out s place i → length s ≤ i → out ≡ sets before place s
 putting_end {before} {out} {s} {place} {i} p h = rw (take_all i s h) at p.now
 
--- ---- parts of a run of octets
+-- what a copy into a part leaves
+pub put_in : (out s now : List ℕ) (i n : ℕ) → i + length s ≤ length out → n ≡ length s → now ≡ s → put_mid i n out now ≡ sets out i s
+put_in out s now i n h e f =
+    put_mid-paste i n out now s (length s) f (sym e) refl ∙ rw (take_all (length s) s (omega arith)) (sym (sets-eq s out i h))
 
-module _ (s : List ℕ) (n : ℕ) where
-  pub first_length : n < length s → n ≡ length (take n s)
-  first_length h = sym (length-take-le n s (omega arith))
-
-  pub first_all : length s ≤ n → s ≡ take n s
-  first_all h = sym (take_all n s h)
-
-  pub from_part : n < length s → take (length s - n) (drop n s) ≡ drop n s
-  from_part h = take_all (length s - n) (drop n s) (omega (arith, length-drop n s))
-
-  pub from_none : length s ≤ n → take (length s - length s) (drop (length s) s) ≡ drop n s
-  from_none h = rw (drop_of_length-le s h, drop-length s) (take-nil (length s - length s))
+-- the four octets of a number, each by one division
+pub octets4_is : (n : ℕ) → (n / 16777216 % 256 ∷ n / 65536 % 256 ∷ n / 256 % 256 ∷ n % 256 ∷ []) ≡ octets4 n
+octets4_is n =
+    let a : n / 16777216 ≡ n / 256 / 256 / 256 = omega arith in
+    let b : n / 65536 ≡ n / 256 / 256 = omega arith in
+    rw (a, b) refl

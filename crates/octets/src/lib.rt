@@ -10,10 +10,7 @@ pub mod numbers;
 pub fn octet(s: &[u8], i: usize) -> u8
     ensures { result ≡ at s.now i }
 {
-    if i < s.len() {
-        return s[i];
-    }
-    0
+    s.get(i).copied().unwrap_or(0)
 }
 
 // An octet as a length or a place.
@@ -23,39 +20,23 @@ pub fn wide(x: u8) -> usize
     x as usize
 }
 
-// Whether two runs of octets are the same. All are looked at, so that many are compared at a time.
+// Whether two runs of octets are the same.
 pub fn same_octets(a: &[u8], b: &[u8]) -> bool
     ensures { result ≡ same a.now b.now }
 {
-    if a.len() != b.len() {
-        return false;
-    }
-    let mut alike = true;
-    let mut i: usize = 0;
-    while i < a.len() {
-        alike = alike & (a[i] == b[i]);
-        i += 1;
-    }
-    alike
+    a == b
 }
 
 // The first `n` octets, or all where there are fewer.
 pub fn first(s: &[u8], n: usize) -> &[u8]
     ensures { result.now ≡ take n s.now }
 {
-    if n < s.len() {
-        return &s[..n];
-    }
-    s
+    &s[..n.min(s.len())]
 }
 
 // The octets from `n` on, or none where there are fewer.
 pub fn from(s: &[u8], n: usize) -> &[u8]
     ensures { result.now ≡ drop n s.now }
 {
-    let all = s.len();
-    if n < all {
-        return &s[n..];
-    }
-    &s[all..]
+    &s[n.min(s.len())..]
 }

@@ -1,5 +1,5 @@
 -- `parameters` meets its contract. Assumes nothing.
-use native.Mathlib.Omega.{arith}
+use Rattle.std.proofs.Common.{arith}
 use Rattle.words.specs.TextLaws.{listing_start, listing_more, listing_end}
 use Rattle.fields.proofs.parameters.Goals as goal
 

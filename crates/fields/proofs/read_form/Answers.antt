@@ -1,16 +1,20 @@
--- `read_form` meets its contract: the first i words are what is due, and the rest decides. Assumes nothing.
-use native.Mathlib.Omega.{arith}
-use Rattle.fields.specs.ReadingLaws.{reading_start, reading_more, reading_not, reading_end}
+-- `read_form` meets its contract: the words before `place` are what is due, and the rest decides. Assumes nothing.
+use Rattle.std.proofs.Common.{◌≡◌, length, arith}
+use Rattle.std.proofs.lemmas.Bool.Decides.{nat_tests}
+use Rattle.fields.specs.ReadingLaws.{reading_start, reading_more, reading_not, reading_end, ended_within}
 use Rattle.fields.proofs.read_form.Goals as goal
 
-pub loop-i-init : goal.loop-i-init
-loop-i-init c = search reading_start
+pub loop-place-init : goal.loop-place-init
+loop-place-init c = search reading_start
 
-pub returns-then-w-eq0 : goal.returns-then-w-eq0
-returns-then-w-eq0 c = (search reading_end, omega arith)
+pub returns-then-is_empty-clause-value : goal.returns-then-is_empty-clause-value
+returns-then-is_empty-clause-value c = let h : length c.word-w.result.now ≡ 0 = grind (arith, nat_tests) in search reading_end
 
-pub returns-in-Not : goal.returns-in-Not
-returns-in-Not c = (search reading_not, omega arith)
+pub returns-then-is_empty-clause-place : goal.returns-then-is_empty-clause-place
+returns-then-is_empty-clause-place c = rw c.ended.ensures (ended_within _ _ _ (omega arith))
 
-pub loop-i-preserved : goal.loop-i-preserved
-loop-i-preserved c = search reading_more
+pub returns-in_default-clause-value : goal.returns-in_default-clause-value
+returns-in_default-clause-value c = let h : length c.word-w.result.now ≡ 0 → ⊥ = grind (arith, nat_tests) in search reading_not
+
+pub loop-place-preserved : goal.loop-place-preserved
+loop-place-preserved c = let h : length c.word-w.result.now ≡ 0 → ⊥ = grind (arith, nat_tests) in search reading_more

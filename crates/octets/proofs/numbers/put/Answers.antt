@@ -1,6 +1,7 @@
--- `octets::numbers::put` meets its contract: the invariant is that the first octets stand in the output. Assumes nothing.
-use Rattle.octets.specs.Laws.{putting_more}
+-- `octets::numbers::put` meets its contract: what is copied is a run of stores. Assumes nothing.
+use Rattle.std.proofs.Common.{arith}
+use Rattle.octets.specs.Laws.{put_in}
 use Rattle.octets.proofs.numbers.put.Goals as goal
 
-pub loop-i-preserved : goal.loop-i-preserved
-loop-i-preserved c = search putting_more
+pub returns : goal.returns
+returns c = put_in c.args.out.now c.args.s.now _ c.args.at _ c.requires (omega arith) c.copy_from_slice.ensures.after
