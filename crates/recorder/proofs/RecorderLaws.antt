@@ -1,12 +1,12 @@
 -- The operations of a recorder, a law for each way out. Assumes nothing.
-use Rattle.std.specs.Prelude.{ℕ, ◌-◌, ◌<◌, ◌≤◌, ◌≡◌, Bool, true, false, not, List, set, replicate, if◌then◌else◌}
+use Rattle.tlv.specs.Refusals.{rejection}
+use Rattle.std.specs.Prelude.{ℕ, ◌-◌, ◌<◌, ◌≤◌, ◌≡◌, Bool, true, false, not, List, set, replicate, if◌then◌else◌, Err}
 use Rattle.std.proofs.Math.Path.{refl}
 use Rattle.std.proofs.Common.{ap, ◌∙◌}
 use borrow.Author.Tests.{not-true, not-false, le-leb, lt-leb}
 use Rattle.tlv.specs.declared.Refusal.{Refusal}
 use Rattle.tlv.specs.declared.Refusal.TheVariants.{NoPort}
-use Rattle.contents.specs.declared.Reading.{Reading}
-use Rattle.contents.specs.declared.Reading.TheVariants.{Refused}
+use Rattle.contents.specs.Contents.{Reading}
 use Rattle.parameters.specs.declared.Feature.{Feature}
 use Rattle.feature.specs.declared.Switches.{Switches}
 use Rattle.notices.specs.declared.Log.{Log}
@@ -15,8 +15,7 @@ use Rattle.port.specs.declared.Flag.{Flag}
 use Rattle.port.specs.declared.Port.{Port}
 use Rattle.port.specs.declared.Versions.{Versions}
 use Rattle.port.specs.declared.Event.{Event}
-use Rattle.port.specs.declared.Written.{Written}
-use Rattle.port.specs.declared.Written.TheVariants as wrote
+use Rattle.port.specs.Types.{Written}
 use Rattle.creation.specs.Creation.{blank_port}
 use Rattle.events.specs.PortEvents.{refused}
 use Rattle.creation.specs.Creation as creation
@@ -97,12 +96,12 @@ module _ (n : ℕ) (p : Port) {b : Bool} (eb : b ≡ is_port n) where
   pub changed_handled : {e : Event} (o : List ℕ) → not b ≡ false → e ≡ handling.handled p o → e ≡ changed n p change.Frame o
   changed_handled o t er = changed_frame change.Frame o t refl er
 
-  pub changed_refused : {e : Event} {r : Reading} {why : Refusal} {place : ℕ} (o : List ℕ) → not b ≡ false → Admits p o r → r ≡ Refused why place
+  pub changed_refused : {e : Event} {r : Reading} {why : Refusal} {place : ℕ} (o : List ℕ) → not b ≡ false → Admits p o r → r ≡ Err (rejection why place)
       → e ≡ admission.rejected why place p → e ≡ changed n p change.Frame o
   changed_refused o t a er ee = changed_handled o t (handle_refused p o a er ee)
 
   module _ (out : List ℕ) where
-    pub wrote_nowhere : not b ≡ true → Wrote n p out (wrote.Refused NoPort) out
+    pub wrote_nowhere : not b ≡ true → Wrote n p out (Err NoPort) out
     unfolding written output
     wrote_nowhere t = record { answers = rw (← eb, not-true b t) refl; octets = rw (← eb, not-true b t) refl }
 
