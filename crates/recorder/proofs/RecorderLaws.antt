@@ -1,10 +1,9 @@
 -- The operations of a recorder, a law for each way out. Assumes nothing.
-use Rattle.tlv.specs.Refusals.{rejection}
-use Rattle.std.specs.Prelude.{ℕ, ◌-◌, ◌<◌, ◌≤◌, ◌≡◌, Bool, true, false, not, List, set, replicate, if◌then◌else◌, Err}
+use Rattle.std.specs.Prelude.{ℕ, ◌≡◌, Bool, true, false, not, List, set, replicate, if◌then◌else◌, Err}
 use Rattle.std.proofs.Math.Path.{refl}
 use Rattle.std.proofs.Common.{ap, ◌∙◌}
-use borrow.Author.Tests.{not-true, not-false, le-leb, lt-leb}
-use Rattle.tlv.specs.declared.Refusal.{Refusal}
+use borrow.Author.Tests.{not-true, not-false}
+use Rattle.tlv.specs.declared.Rejection.{Rejection}
 use Rattle.tlv.specs.declared.Refusal.TheVariants.{NoPort}
 use Rattle.contents.specs.Contents.{Reading}
 use Rattle.parameters.specs.declared.Feature.{Feature}
@@ -32,21 +31,6 @@ use Rattle.recorder.specs.declared.Change.TheVariants as change
 use Rattle.logging.specs.Logging.{kept, is_silent}
 use Rattle.logging.specs.LoggingLaws.{silent_kept}
 use Rattle.recorder.specs.Recorder.{place_of, blank, happens, changed, created, stored, written, output, Wrote}
-
--- ---- ports
-
-module _ (n : ℕ) where
-  pub place_low : n < 1 → 0 ≡ place_of n
-  unfolding place_of
-  place_low h = simp (lt-leb 1 n h)
-
-  pub place_high : 1 ≤ n → 4 < n → 0 ≡ place_of n
-  unfolding place_of
-  place_high l h = simp (le-leb 1 n l, lt-leb n 4 h)
-
-  pub place_is : 1 ≤ n → n ≤ 4 → n - 1 ≡ place_of n
-  unfolding place_of
-  place_is l h = simp (le-leb 1 n l, le-leb n 4 h)
 
 pub blank_is : {p : Port} {l : Log} → p ≡ blank_port → l ≡ empty_log → record { ports = replicate 4 p; log = l } ≡ blank
 unfolding blank
@@ -96,8 +80,8 @@ module _ (n : ℕ) (p : Port) {b : Bool} (eb : b ≡ is_port n) where
   pub changed_handled : {e : Event} (o : List ℕ) → not b ≡ false → e ≡ handling.handled p o → e ≡ changed n p change.Frame o
   changed_handled o t er = changed_frame change.Frame o t refl er
 
-  pub changed_refused : {e : Event} {r : Reading} {why : Refusal} {place : ℕ} (o : List ℕ) → not b ≡ false → Admits p o r → r ≡ Err (rejection why place)
-      → e ≡ admission.rejected why place p → e ≡ changed n p change.Frame o
+  pub changed_refused : {e : Event} {r : Reading} {x : Rejection} (o : List ℕ) → not b ≡ false → Admits p o r → r ≡ Err x
+      → e ≡ admission.rejected x.why x.place p → e ≡ changed n p change.Frame o
   changed_refused o t a er ee = changed_handled o t (handle_refused p o a er ee)
 
   module _ (out : List ℕ) where
