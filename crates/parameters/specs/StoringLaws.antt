@@ -1,9 +1,10 @@
 -- Laws of parameters as a state holds them. Assumes nothing.
-use Rattle.std.specs.Prelude.{ℕ, ◌+◌, ◌-◌, ◌%◌, ◌≤◌, min, ◌≡◌, refl, Bool, true, false, List, [], ◌++◌, length, take, drop, replicate}
-use Rattle.std.proofs.Common.{arith, ap, ◌∙◌, length-append, length-take, take_all, drop_at, eq-eqb, ne_eqb, eqb-true}
+use Rattle.std.specs.Prelude.{ℕ, ◌+◌, ◌-◌, ◌≤◌, min, ◌≡◌, refl, true, eqb, ◌&&◌, List, [], ◌∷◌, ◌++◌, length, take, drop, replicate}
+use Rattle.std.proofs.Common.{arith, ap, ◌∙◌, length-append, length-take, take_all, drop_at, eq-eqb, eqb-true}
 use Rattle.std.proofs.lemmas.List.{length-replicate, replicate-append-replicate}
 use Rattle.std.proofs.Math.Seq.{take-append_seam, drop-append-add}
 use Rattle.std.proofs.lemmas.List.Edits.{sets, sets-eq}
+use Rattle.std.specs.Cmp.Lexicographic.{pointwise}
 use Rattle.octets.specs.Words.{◌is◌}
 use Rattle.octets.specs.Octets.{same}
 use Rattle.octets.specs.Laws.{and_left, and_right, same_is, same_refl}
@@ -25,15 +26,14 @@ put_behind a v m =
 pub first_room : (p : List ℕ) {s : List ℕ} → s ≡ take 96 p → 0 + length s ≤ 96
 first_room p e = let n : length (take 96 p) ≡ min 96 (length p) = length-take 96 p in rw e (omega arith)
 
-pub stored_all : (p : List ℕ) {s kept : List ℕ} → s ≡ take 96 p → kept ≡ sets (replicate 96 0) 0 s → record { length = length s % 256; octets = kept } ≡ stored p
+pub stored_all : (p : List ℕ) {s kept : List ℕ} → s ≡ take 96 p → kept ≡ sets (replicate 96 0) 0 s → record { length = length s; octets = kept } ≡ stored p
 unfolding stored
 stored_all p {s} {kept} e k =
     let l : length s ≡ length (take 96 p) = ap length e in
     let n : length (take 96 p) ≡ min 96 (length p) = length-take 96 p in
     let z : 96 ≡ length s + (96 - length p) = omega arith in
-    let a : length s % 256 ≡ length (take 96 p) = omega arith in
     let o : kept ≡ take 96 p ++ replicate (96 - length p) 0 = k ∙ ap (λ (m : ℕ). sets (replicate m 0) 0 s) z ∙ put_behind [] s (96 - length p) ∙ rw e refl in
-    λ t. record { length = a t; octets = o t }
+    λ t. record { length = l t; octets = o t }
 
 -- ---- what is stored, as octets
 
@@ -42,15 +42,6 @@ unfolding content stored
 content_stored p h = take-append_seam (take 96 p) (replicate (96 - length p) 0) ∙ take_all 96 p h
 
 -- ---- equality
-
-module _ (a b : Parameters) where
-  pub parameters_length : (a.length ≡ b.length → ⊥) → false ≡ same_parameters a b
-  unfolding same_parameters
-  parameters_length h = simp (ne_eqb a.length b.length h)
-
-  pub parameters_octets : {r : Bool} → a.length ≡ b.length → r ≡ same a.octets b.octets → r ≡ same_parameters a b
-  unfolding same_parameters
-  parameters_octets h e = e ∙ simp (eq-eqb a.length b.length h)
 
 pub same_parameters_is : (a b : Parameters) → same_parameters a b ≡ true → a ≡ b
 unfolding same_parameters
@@ -62,3 +53,15 @@ same_parameters_is a b e =
 pub same_parameters_refl : (a : Parameters) → same_parameters a a ≡ true
 unfolding same_parameters
 same_parameters_refl a = rw (eq-eqb a.length a.length refl, same_refl a.octets)
+
+-- the derived `==` finds them the same exactly where these are
+same_pointwise : (a b : List ℕ) → pointwise eqb a b ≡ same a b
+unfolding same
+same_pointwise [] [] = refl
+same_pointwise [] (y ∷ b) = refl
+same_pointwise (x ∷ a) [] = refl
+same_pointwise (x ∷ a) (y ∷ b) = rw (same_pointwise a b)
+
+pub same_parameters_eq : (a b : Parameters) → (eqb a.length b.length && pointwise eqb a.octets b.octets) ≡ same_parameters a b
+unfolding same_parameters
+same_parameters_eq a b = rw (same_pointwise a.octets b.octets)

@@ -7,11 +7,11 @@ ghost use Rattle.parameters.specs.WritingLaws.{Size};
 use crate::Parameters;
 
 // How many octets the configuration has.
+#[tactic(auto, using(crate::specs::WritingLaws::size_of))]
 pub fn size(p: Parameters) -> usize
     ensures { Size p result }
 {
-    let content = octets::first(&p.octets, octets::wide(p.length));
-    content.len()
+    p.content().len()
 }
 
 // Writes them at `at`. The caller has refused a short output before; hence the `requires`.
@@ -19,5 +19,5 @@ pub fn put(out: &mut [u8], at: usize, p: Parameters)
     requires { at + length (content p) ≤ length out.old }
     ensures { out.new ≡ sets out.old at (content p) }
 {
-    octets::numbers::put(out, at, octets::first(&p.octets, octets::wide(p.length)));
+    octets::numbers::put(out, at, p.content());
 }
