@@ -1,6 +1,6 @@
 -- Setting changes, a law for each way out of the functions: premises in the form in which a test or a call leaves them.
 -- Assumes nothing.
-use Rattle.std.specs.Prelude.{ℕ, Bool, true, false, not, ◌≡◌, List}
+use Rattle.std.specs.Prelude.{ℕ, Bool, true, false, not, ◌≡◌, List, None}
 use Rattle.std.proofs.Common.{◌∙◌}
 use Rattle.std.proofs.Math.Path.{refl, ap}
 use borrow.Author.Tests.{not-true, not-false, eq-eqb, ne_eqb}
@@ -14,7 +14,6 @@ use Rattle.feature.specs.declared.Setting.{Setting}
 use Rattle.feature.specs.declared.Switches.{Switches}
 use Rattle.machine.specs.State.{marked, reset, setting_of, same_setting}
 use Rattle.port.specs.declared.Port.{Port}
-use Rattle.port.specs.declared.Raised.TheVariants as raised
 use Rattle.port.specs.declared.Event.{Event}
 use Rattle.port.specs.Parts.{feature_of, three, with_features, running}
 use Rattle.sending.specs.Sending.{sent, fresh_port, completed}
@@ -43,7 +42,7 @@ module _ (f : Feature) (s : Setting) (p : Port) {x : State} {b : Bool} (ex : x �
   unfolding set_to
   set_same t er = er ∙ rw (← told, t) refl
 
-  pub set_other : {e : Event} {q : Port} → b ≡ false → q ≡ setting_changed f s p → e ≡ event raised.Nothing p q → e ≡ set_to f s p
+  pub set_other : {e : Event} {q : Port} → b ≡ false → q ≡ setting_changed f s p → e ≡ event None p q → e ≡ set_to f s p
   unfolding set_to
   set_other t eq er = er ∙ rw (eq, ← told, t) refl
 

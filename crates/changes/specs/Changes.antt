@@ -1,5 +1,5 @@
 -- 01, Port events: changing one feature's setting.
-use Rattle.std.specs.Prelude.{ℕ, List, if◌then◌else◌}
+use Rattle.std.specs.Prelude.{ℕ, List, if◌then◌else◌, None}
 use Rattle.octets.specs.Words.{◌is◌}
 use Rattle.tlv.specs.declared.Refusal.TheVariants.{InvalidSetting, UnknownFeature}
 use Rattle.tlv.specs.Revisions.{has_applications}
@@ -11,7 +11,6 @@ use Rattle.feature.specs.declared.State.{State}
 use Rattle.parameters.specs.Parameters.{valid_local}
 use Rattle.machine.specs.State.{setting_of, same_setting, reset}
 use Rattle.port.specs.declared.Port.{Port}
-use Rattle.port.specs.declared.Raised.TheVariants as raised
 use Rattle.port.specs.declared.Event.{Event}
 use Rattle.port.specs.Parts.{feature_of, three, with_features, running}
 use Rattle.sending.specs.Sending.{fresh_port, completed}
@@ -35,7 +34,7 @@ setting_changed f s p =
 unfoldable pub set_to : Feature → Setting → Port → Event
 set_to f s p =
     if same_setting (feature_of p f).setting s then unchanged p
-    else event raised.Nothing p (setting_changed f s p)
+    else event None p (setting_changed f s p)
 
 unfoldable pub changed_feature : Feature → Switches → List ℕ → Port → Event
 changed_feature f w o p =

@@ -8,19 +8,19 @@ ghost use Rattle.changes.specs.Changes.{with_feature, with_setting, setting_chan
 
 use feature::{Setting, State, Switches};
 use parameters::Feature;
-use port::{Event, Port, Raised};
+use port::{Event, Port};
 use tlv::Refusal;
 
 // Step 5 and the send rule, from the port before the event to the port after steps 1 to 4.
 pub fn complete(before: Port, after: Port) -> Port
     ensures { result ≡ completed before after }
 {
-    let c = after.control;
-    let g = machine::mark(Feature::Groups, c.seq, before.groups, after.groups);
-    let w = machine::mark(Feature::Flow, c.seq, before.flow, after.flow);
+    let seq = after.control.seq;
+    let g = machine::mark(Feature::Groups, seq, before.groups, after.groups);
+    let w = machine::mark(Feature::Flow, seq, before.flow, after.flow);
     let a = machine::mark(
         Feature::Applications,
-        c.seq,
+        seq,
         before.applications,
         after.applications,
     );
@@ -40,39 +40,29 @@ fn feature_of(p: Port, f: Feature) -> State
 fn with_feature(p: Port, f: Feature, x: State) -> Port
     ensures { result ≡ with_feature p f x }
 {
-    let mut next = p;
     match f {
-        Feature::Groups => {
-            next.groups = x;
-            return next;
-        }
-        Feature::Flow => {
-            next.flow = x;
-            return next;
-        }
-        Feature::Applications => {
-            next.applications = x;
-            return next;
-        }
+        Feature::Groups => Port { groups: x, ..p },
+        Feature::Flow => Port { flow: x, ..p },
+        Feature::Applications => Port {
+            applications: x,
+            ..p
+        },
     }
 }
 
 fn with_setting(x: State, s: Setting) -> State
     ensures { result ≡ with_setting x s }
 {
-    let mut next = x;
-    next.setting = s;
-    next
+    State { setting: s, ..x }
 }
 
 // The port under another setting of one feature.
 fn set_feature(p: Port, f: Feature, s: Setting) -> Port
     ensures { result ≡ setting_changed f s p }
 {
-    let c = p.control;
     let x = feature_of(p, f);
     if port::writing::running(p) {
-        let y = machine::set_anew(f, c.seq, s, x);
+        let y = machine::set_anew(f, p.control.seq, s, x);
         return complete(p, with_feature(p, f, y));
     }
     let y = with_setting(x, s);
@@ -86,7 +76,7 @@ fn set_to(p: Port, f: Feature, s: Setting) -> Event
     if machine::same_setting(x.setting, s) {
         return events::unchanged(p);
     }
-    events::conclude(Raised::Nothing, p, set_feature(p, f, s))
+    events::conclude(None, p, set_feature(p, f, s))
 }
 
 fn change_feature(p: Port, f: Feature, w: Switches, o: &[u8]) -> Event
@@ -102,8 +92,7 @@ fn change_feature(p: Port, f: Feature, w: Switches, o: &[u8]) -> Event
 fn change_applications(p: Port, w: Switches, o: &[u8]) -> Event
     ensures { result ≡ changed_applications w o.now p }
 {
-    let revision = p.revision;
-    if !tlv::has_applications(revision) {
+    if !tlv::has_applications(p.revision) {
         return events::refuse(Refusal::UnknownFeature, p);
     }
     change_feature(p, Feature::Applications, w, o)

@@ -6,7 +6,6 @@ ghost use Rattle.capture.specs.Steps.{Before};
 ghost use Rattle.console.specs.declared.Standing.TheVariants.{Open, Failed};
 
 pub mod arguments;
-pub mod captures;
 pub mod streams;
 
 use std::fs::File;
@@ -154,6 +153,13 @@ impl<'a> Input<'a> {
     {
         self.number = self.number.wrapping_sub(1);
         self.next = found.from.min(self.end);
+    }
+
+    // How many lines were found.
+    pub fn number(&self) -> u64
+        ensures { result ≡ self.now.number }
+    {
+        self.number
     }
 
     // Whether more may be read.

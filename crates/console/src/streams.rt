@@ -49,8 +49,12 @@ impl<'a> Streams<'a> {
         }
     }
 
-    // Says that the settings are bad, and on standard error why; where that is nothing, that they cannot be read.
-    pub fn refuse(&self, why: &[u8]) {
+    // Says that the settings are bad, and on standard error why; where that is nothing, that they cannot be read from their file, if
+    // they stand `alone` in one, and otherwise no more than that.
+    pub fn refuse(&self, why: &[u8], alone: bool) {
+        if why.is_empty() && !alone {
+            return self.cannot_read();
+        }
         if self.write(b"bad settings\n").is_err() {
             return;
         }

@@ -1,6 +1,6 @@
 -- Creation, a law for each way out of the functions: premises in the form in which a test or a call leaves them.
 -- Assumes nothing.
-use Rattle.std.specs.Prelude.{ℕ, Bool, true, false, not, ◌≡◌, replicate, List, [], ◌∷◌}
+use Rattle.std.specs.Prelude.{ℕ, Bool, true, false, not, ◌≡◌, replicate, List, [], ◌∷◌, Ok}
 use Rattle.std.proofs.Common.{◌∙◌}
 use Rattle.std.proofs.Math.Path.{refl}
 use borrow.Author.Tests.{not-true, not-false}
@@ -18,7 +18,6 @@ use Rattle.port.specs.declared.Control.{Control}
 use Rattle.port.specs.declared.Port.{Port}
 use Rattle.port.specs.declared.Released.{Released}
 use Rattle.port.specs.declared.Versions.{Versions}
-use Rattle.port.specs.declared.Answer.TheVariants.{Done}
 use Rattle.port.specs.declared.Notices.{Notices}
 use Rattle.port.specs.declared.Event.{Event}
 use Rattle.port.specs.Writing.{asks}
@@ -44,7 +43,7 @@ unfolding blank_port blank_parameters
 blank_is ec eg ew eo ea er = rw (er, ec, eg, ew, ea, eo) refl
 
 pub made_is : (before : Port) (v : Versions) (g w a : Setting) {p : Port} {b : Bool} {n : Notices} → p ≡ started v g w a → b ≡ asks before p → n ≡ silent
-    → record { answer = Done b; port = p; notices = n } ≡ made before (started v g w a)
+    → record { answer = Ok b; port = p; notices = n } ≡ made before (started v g w a)
 made_is before v g w a ep eb en = rw (eb, ep, en) refl
 
 module _ (p : Port) (v : Versions) (g w a : Switches) (gp wp ap : List ℕ) {e : Event} {b : Bool} (eb : b ≡ valid_local Groups gp) where

@@ -1,5 +1,5 @@
 -- 01, Port events: creation; and what stands where no port has been made.
-use Rattle.std.specs.Prelude.{ℕ, Bool, true, false, List, [], ◌∷◌, if◌then◌else◌}
+use Rattle.std.specs.Prelude.{ℕ, Bool, true, false, List, [], ◌∷◌, if◌then◌else◌, Ok}
 use Rattle.tlv.specs.declared.Refusal.TheVariants.{InvalidSetting}
 use Rattle.tlv.specs.declared.Revision.{Revision}
 use Rattle.tlv.specs.declared.Revision.TheVariants.{Rev101}
@@ -13,7 +13,6 @@ use Rattle.parameters.specs.Parameters.{valid_local}
 use Rattle.machine.specs.State.{fresh, setting_of}
 use Rattle.port.specs.declared.Port.{Port}
 use Rattle.port.specs.declared.Versions.{Versions}
-use Rattle.port.specs.declared.Answer.TheVariants.{Done}
 use Rattle.port.specs.declared.Event.{Event}
 use Rattle.port.specs.Parts.{switched_off, three, presents, each}
 use Rattle.port.specs.Writing.{asks}
@@ -70,7 +69,7 @@ settings_valid p = each (λ f. valid_local f (p f))
 
 -- a port in the place of another: "a stopped port has none, so creation .. ask", and so it does wherever the octets differ
 abbrev pub made : Port → Port → Event
-made before p = record { answer = Done (asks before p); port = p; notices = silent }
+made before p = record { answer = Ok (asks before p); port = p; notices = silent }
 
 -- "creation with an invalid setting gives 9 and makes no port": what stood in its place stays
 unfoldable pub created_with : Versions → (Feature → Switches) → (Feature → List ℕ) → Port → Event

@@ -8,19 +8,21 @@ ghost use Rattle.creation.specs.Creation.{blank_port, started, made, created_wit
 
 use feature::{Setting, State, Switches};
 use parameters::Feature;
-use port::{Answer, Event, Port, Versions};
+use port::{Event, Port, Versions};
 use tlv::{Refusal, Revision};
+
+// Nothing advertised, enabled or willing.
+const OFF: Switches = Switches {
+    advertise: false,
+    enable: false,
+    willing: false,
+};
 
 // A feature where no port has been made, with these parameters.
 fn blank_state(f: Feature, o: &[u8]) -> State
     ensures { result ≡ fresh 0 (setting_of f switched_off o.now) }
 {
-    let off = Switches {
-        advertise: false,
-        enable: false,
-        willing: false,
-    };
-    machine::fresh_at(1, 0, machine::setting_of(f, off, o))
+    machine::fresh_at(1, 0, machine::setting_of(f, OFF, o))
 }
 
 // What stands where no port has been made: stopped, versions 0, nothing advertised, and a setting that asks for nothing.
@@ -29,22 +31,20 @@ pub fn blank() -> Port
 {
     let one_group = [0, 0, 0, 0, 100, 0, 0, 0, 0, 0, 0, 0, 0];
     let no_flow = [0; 2];
-    let c = sending::fresh_control(0);
     let g = blank_state(Feature::Groups, &one_group);
     let w = blank_state(Feature::Flow, &no_flow);
     let a = blank_state(Feature::Applications, octets::first(&no_flow, 0));
-    let released = sending::presents(g, w, a);
     Port {
         revision: Revision::Rev101,
         admin: false,
         receive: false,
         transmit: false,
         several: false,
-        control: c,
+        control: sending::fresh_control(0),
         groups: g,
         flow: w,
         applications: a,
-        released: released,
+        released: sending::presents(g, w, a),
     }
 }
 
@@ -55,20 +55,17 @@ fn start(v: Versions, g: Setting, w: Setting, a: Setting) -> Port
     let x = machine::fresh_at(1, v.groups, g);
     let y = machine::fresh_at(1, v.flow, w);
     let z = machine::fresh_at(1, v.applications, a);
-    let c = sending::fresh_control(v.control);
-    let released = sending::presents(x, y, z);
-    let revision = v.revision;
     sending::send(Port {
-        revision: revision,
+        revision: v.revision,
         admin: true,
         receive: true,
         transmit: true,
         several: false,
-        control: c,
+        control: sending::fresh_control(v.control),
         groups: x,
         flow: y,
         applications: z,
-        released: released,
+        released: sending::presents(x, y, z),
     })
 }
 
@@ -76,13 +73,11 @@ fn start(v: Versions, g: Setting, w: Setting, a: Setting) -> Port
 fn make(p: Port, v: Versions, g: Setting, w: Setting, a: Setting) -> Event
     ensures { result ≡ made p (started v g w a) }
 {
-    let port = start(v, g, w, a);
-    let differs = port::writing::asks(p, port);
-    let none = events::silent();
+    let next = start(v, g, w, a);
     Event {
-        answer: Answer::Done(differs),
-        port: port,
-        notices: none,
+        answer: Ok(port::writing::asks(p, next)),
+        port: next,
+        notices: events::silent(),
     }
 }
 
@@ -129,16 +124,12 @@ pub fn create(
 ) -> Event
     ensures { result ≡ created v (three g w a) (three gp.now wp.now ap.now) p }
 {
-    let revision = v.revision;
-    if tlv::has_applications(revision) {
+    if tlv::has_applications(v.revision) {
         return create_with(p, v, g, gp, w, wp, a, ap);
     }
-    let mut versions = v;
-    versions.applications = 0;
-    let off = Switches {
-        advertise: false,
-        enable: false,
-        willing: false,
+    let versions = Versions {
+        applications: 0,
+        ..v
     };
-    create_with(p, versions, g, gp, w, wp, off, octets::first(ap, 0))
+    create_with(p, versions, g, gp, w, wp, OFF, octets::first(ap, 0))
 }

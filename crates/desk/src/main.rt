@@ -1,177 +1,84 @@
 // The desk: the settings of one to four ports, then events, one a line, each answered before the next is read (docs/FORMATS.md).
 #![tactic(auto)]
 
-use console::arguments::Source;
-use console::{Lines, Reader};
+use console::streams::Streams;
+use console::{Found, Input};
+use printing::Output;
 use recorder::Recorder;
+use settings::program;
+use settings::program::Program;
+use settings::wrong::Wrong;
+use std::io;
 
-// What an answer may take of the output; the longest, of `show`, is shorter.
+// What an answer may take of the page; the longest, of `show`, is shorter.
 const ROOM: usize = 16384;
 
-// Writes out what stands before `at`.
-fn flush(rt: &HostRuntime, output: &[u8], at: usize) -> bool {
-    console::streams::write(rt, b"desk", octets::first(output, at))
+// Writes out what stands on the page.
+fn flush(streams: Streams, page: &mut Output) -> io::Result<()> {
+    let written = streams.write(page.as_slice());
+    page.clear();
+    written
 }
 
-// The line that was found, and where its answer goes.
-#[derive(Clone, Copy)]
-struct Place {
-    lines: Lines,
-    at: usize,
-}
-
-// Whether the output, of `all` octets, has no room for an answer behind `at`.
-fn is_full(all: usize, at: usize) -> bool {
-    if all < ROOM {
-        return false;
-    }
-    all - ROOM < at
-}
-
-// The place of an answer: at the front again, once the output is full. What cannot be written ends the lines.
-fn placed(rt: &HostRuntime, output: &[u8], l: Lines, at: usize) -> Place {
-    let mut lines = l;
-    if !is_full(output.len(), at) {
-        return Place {
-            lines: lines,
-            at: at,
-        };
-    }
-    lines.found = flush(rt, output, at);
-    Place {
-        lines: lines,
-        at: 0,
-    }
-}
-
-// Reads on until a line is found. The output is written out before each read.
-fn read_on(
-    rt: &HostRuntime,
-    reader: &mut Reader,
-    input: &mut [u8],
-    output: &[u8],
-    l: Lines,
-    at: usize,
-) -> Lines {
-    if !flush(rt, output, at) {
-        return l;
-    }
-    let lines = console::fetch(reader, input, l);
-    if lines.failed {
-        console::streams::cannot_read(rt, b"desk");
-    }
-    lines
-}
-
-// The next line, if there is one.
-fn next(
-    rt: &HostRuntime,
-    reader: &mut Reader,
-    input: &mut [u8],
-    output: &[u8],
-    l: Lines,
-    at: usize,
-) -> Place {
-    let lines = console::seek(input, l);
-    if lines.found {
-        return placed(rt, output, lines, at);
-    }
-    Place {
-        lines: read_on(rt, reader, input, output, lines, at),
-        at: 0,
-    }
-}
-
-// The events, to the end of the input; what stands in the output before `behind` is written out first. The recorder stays where
-// it is: of an event only the port at hand moves, and the log. A frame, as most lines are, goes its own way: where it repeats what
-// is held of the peer the control alone moves, and the log moves only where a notice was raised. A proved loop ends: it counts its
-// turns down, from a number that no run uses up.
-fn run(
-    rt: &HostRuntime,
-    reader: &mut Reader,
-    input: &mut [u8],
-    output: &mut [u8],
-    start: Recorder,
-    first: Lines,
-    behind: usize,
-) {
-    let mut held = start;
-    let mut lines = first;
-    let mut at = behind;
-    let mut turns = u64::MAX;
-    while 0 < turns {
-        turns -= 1;
-        let p = next(rt, reader, input, output, lines, at);
-        lines = p.lines;
-        if !lines.found {
-            return;
+// The next line, if there is one. The page is written out before each read, and where it has no room for an answer; what cannot be
+// written ends the lines.
+fn next(streams: Streams, input: &mut Input, page: &mut Output) -> Option<Found> {
+    if let Some(found) = input.seek() {
+        if page.room() < ROOM {
+            flush(streams, page).ok()?;
         }
-        let line = console::line(input, lines);
-        let w = addressing::port_of(line);
-        let said = addressing::behind_port(line, w.given);
-        let from = report::ports::first(output, p.at, w.given, w.number);
-        let i = recorder::place_of(w.number);
+        return Some(found);
+    }
+    flush(streams, page).ok()?;
+    let found = input.fetch();
+    if input.has_failed() {
+        streams.cannot_read();
+    }
+    found
+}
+
+// The events, to the end of the input; what stands on the page is written out first. The recorder stays where it is: of an event
+// only the port at hand moves, and the log. A frame, as most lines are, goes its own way: where it repeats what is held of the peer
+// the control alone moves, and the log moves only where a notice was raised. A proved loop ends: no run uses up its turns.
+fn run(streams: Streams, input: &mut Input, page: &mut Output, start: Recorder) {
+    let mut held = start;
+    for _ in 0..u64::MAX {
+        let Some(found) = next(streams, input, page) else {
+            return;
+        };
+        let line = input.line(found);
+        let port = addressing::port_of(line);
+        let said = addressing::behind_port(line, port);
+        report::ports::first(page, port);
+        let n = addressing::port_meant(port);
+        let i = recorder::place_of(n);
         if script::is_frame(said) {
-            let o = words::frame_octets(said);
-            let frame = octets::first(&o, words::frame_length(said));
-            let k = repeating::repeat(w.number, held.ports[i], frame);
-            if k.holds {
-                let c = k.control;
-                held.ports[i].control.max = c.max;
-                held.ports[i].control.oper = c.oper;
-                held.ports[i].control.seq = c.seq;
-                held.ports[i].control.ack = c.ack;
-                held.ports[i].control.rcvd = c.rcvd;
-                held.ports[i].control.seen = c.seen;
-                held.ports[i].control.duplicate = c.duplicate;
-                held.ports[i].control.broken = c.broken;
-                at = report::answers::done(output, from, k.wish, 0);
+            let frame = words::frame_of(said);
+            if let Some(k) = repeating::repeat(n, held.ports[i], frame.as_slice()) {
+                held.ports[i].control = k.control;
+                report::answers::done(page, k.wish, 0);
                 continue;
             }
-            let e = recorder::handle(w.number, held.ports[i], frame);
-            let port = e.port;
-            held.ports[i] = port;
+            let e = recorder::handle(n, held.ports[i], frame.as_slice());
+            held.ports[i] = e.port;
             if !logging::is_silent(e.notices) {
-                let log = logging::keep(held.log, w.number, e.notices);
-                held.log = log;
+                held.log = logging::keep(held.log, n, e.notices);
             }
-            at = answering::answered(output, from, w, e);
+            answering::answered(page, port, e);
             continue;
         }
-        let s = answering::event(output, from, w, held.ports[i], held.log, lines.number, said);
-        let port = s.port;
-        let log = s.log;
-        held.ports[i] = port;
-        held.log = log;
-        at = s.at;
+        let s = answering::event(page, port, held.ports[i], held.log, found.number, said);
+        held.ports[i] = s.port;
+        held.log = s.log;
     }
 }
 
-// Reads the settings, and if nothing is wrong with them runs the events.
-fn serve(rt: &HostRuntime, reader: &mut Reader, input: &mut [u8], output: &mut [u8], alone: bool) {
-    let s = settings::read_recorder(reader, input, output, console::start(), alone);
-    let lines = s.lines;
-    if lines.failed {
-        console::streams::cannot_read(rt, b"desk");
-        return;
-    }
-    if !s.good {
-        flush(rt, output, s.at);
-        return;
-    }
-    let first = console::streams::behind_settings(reader, lines, alone);
-    run(rt, reader, input, output, s.recorder, first, s.at);
-}
+struct Desk;
 
-// Writes that the settings cannot be had.
-fn report_unopened(rt: &HostRuntime, output: &mut [u8], file: &[u8]) {
-    let at = report::answers::unopened(output, 0, file);
-    flush(rt, output, at);
-}
+impl Program for Desk {
+    const NAME: &'static str = "desk";
 
-// Writes the usage, to standard output where help was asked for, and otherwise to standard error.
-fn usage(rt: &HostRuntime, asked: bool) {
-    let text = b"usage: desk [FILE]
+    const USAGE: &'static str = "usage: desk [FILE]
 
 Runs a recorder of one to four ports: first their settings, then events, one a
 line, each answered. With FILE the settings are read from it and the events from
@@ -193,25 +100,25 @@ show
 
 docs/FORMATS.md describes all lines and answers.
 ";
-    console::streams::usage(rt, b"desk", text, asked);
+
+    // Reads the settings, and if nothing is wrong with them runs the events.
+    fn serve(
+        streams: Streams,
+        input: &mut Input,
+        page: &mut Output,
+        alone: bool,
+    ) -> Result<(), Wrong> {
+        let recorder = settings::read_recorder(input, page, alone)?;
+        input.leave_file();
+        run(streams, input, page, recorder);
+        Ok(())
+    }
+
+    fn refuse(streams: Streams, why: &[u8], _alone: bool) {
+        streams.answer(why);
+    }
 }
 
 fn main(rt: HostRuntime) {
-    let mut name = [0; 4096];
-    let mut input = [0; 65536];
-    let mut output = [0; 65536];
-    let source = console::arguments::asked(&rt, &mut name);
-    match source {
-        Source::Input => {
-            let mut reader = Reader::of_standard(rt.stdin());
-            serve(&rt, &mut reader, &mut input, &mut output, false);
-        }
-        Source::File(file) => {
-            let mut reader = Reader::of_file(file, rt.stdin());
-            serve(&rt, &mut reader, &mut input, &mut output, true);
-        }
-        Source::Unopened(n) => report_unopened(&rt, &mut output, octets::first(&name, n)),
-        Source::Help => usage(&rt, true),
-        Source::Unknown => usage(&rt, false),
-    }
+    program::run::<Desk>(&rt);
 }

@@ -1,18 +1,17 @@
 -- 01, Notices: which an event raises; and what an event gives.
-use Rattle.std.specs.Prelude.{ℕ, false, List, [], ◌∷◌, if◌then◌else◌}
+use Rattle.tlv.specs.Refusals.{rejection}
+use Rattle.std.specs.Prelude.{ℕ, false, Option, List, [], ◌∷◌, if◌then◌else◌, None, Some, Ok, Err}
 use Rattle.octets.specs.Words.{◌is◌}
 use Rattle.tlv.specs.declared.Refusal.{Refusal}
 use Rattle.parameters.specs.declared.Feature.TheVariants.{Groups, Flow, Applications}
 use Rattle.feature.specs.declared.Reason.{Reason}
 use Rattle.feature.specs.declared.Reason.TheVariants as reason
 use Rattle.feature.specs.Reasons.{reason_number}
-use Rattle.parameters.specs.Parameters.{feature_number}
+use Rattle.parameters.specs.declared.Feature.{Feature}
 use Rattle.notices.specs.declared.Kind.TheVariants as kind
 use Rattle.notices.specs.declared.Notice.{Notice}
 use Rattle.port.specs.declared.Port.{Port}
-use Rattle.port.specs.declared.Answer.TheVariants.{Done, Refused}
-use Rattle.port.specs.declared.Raised.{Raised}
-use Rattle.port.specs.declared.Raised.TheVariants as raised
+use Rattle.port.specs.Types.{Raised}
 use Rattle.port.specs.declared.Notices.{Notices}
 use Rattle.port.specs.declared.Event.{Event}
 use Rattle.port.specs.Writing.{asks}
@@ -21,19 +20,19 @@ use Rattle.port.specs.Writing.{asks}
 
 -- "Per feature, when its reason becomes: 7 duplicate, 2 bad, 8 absent, 10 not compatible."
 abbrev pub noticed : Reason → Raised
-noticed reason.NoPeerYet = raised.Nothing
-noticed reason.NotAdvertised = raised.Nothing
-noticed reason.Absent = raised.Notice kind.Absent
-noticed reason.Duplicate = raised.Notice kind.Duplicate
-noticed reason.Bad = raised.Notice kind.Bad
-noticed reason.Waiting = raised.Nothing
-noticed reason.Disabled = raised.Nothing
-noticed reason.Agreed = raised.Nothing
-noticed reason.NotCompatible = raised.Notice kind.NotCompatible
-noticed reason.ControlTwice = raised.Nothing
+noticed reason.NoPeerYet = None
+noticed reason.NotAdvertised = None
+noticed reason.Absent = Some kind.Absent
+noticed reason.Duplicate = Some kind.Duplicate
+noticed reason.Bad = Some kind.Bad
+noticed reason.Waiting = None
+noticed reason.Disabled = None
+noticed reason.Agreed = None
+noticed reason.NotCompatible = Some kind.NotCompatible
+noticed reason.ControlTwice = None
 
 unfoldable pub becomes : Reason → Reason → Raised
-becomes before after = if reason_number before is reason_number after then raised.Nothing else noticed after
+becomes before after = if reason_number before is reason_number after then None else noticed after
 
 -- what the features raise, beside a notice of the port
 abbrev pub raises : Raised → Port → Port → Notices
@@ -46,29 +45,29 @@ raises x before after =
     }
 
 abbrev pub silent : Notices
-silent = record { port = raised.Nothing; groups = raised.Nothing; flow = raised.Nothing; applications = raised.Nothing }
+silent = record { port = None; groups = None; flow = None; applications = None }
 
 -- "Port notices come first, then ascending features." "its feature, 0 for a port notice"; 02, E10: "each with its port number"
-unfoldable pub listed : ℕ → Raised → ℕ → List Notice → List Notice
-listed port raised.Nothing feature rest = rest
-listed port (raised.Notice k) feature rest = record { port = port; kind = k; feature = feature } ∷ rest
+unfoldable pub listed : ℕ → Raised → Option Feature → List Notice → List Notice
+listed port None feature rest = rest
+listed port (Some k) feature rest = record { port = port; kind = k; feature = feature } ∷ rest
 
 unfoldable pub in_order : ℕ → Notices → List Notice
 in_order port n =
-    listed port n.port 0
-    (listed port n.groups (feature_number Groups) (listed port n.flow (feature_number Flow) (listed port n.applications (feature_number Applications) [])))
+    listed port n.port None
+    (listed port n.groups (Some Groups) (listed port n.flow (Some Flow) (listed port n.applications (Some Applications) [])))
 
 -- ---- Events
 
 -- "A refusal returns its number alone and changes nothing": of a frame see admission/specs (02, E1). Beside a refusal that is no frame's the place
 -- of 02, E2, is 0.
 abbrev pub refused : Refusal → Port → Event
-refused why p = record { answer = Refused why 0; port = p; notices = silent }
+refused why p = record { answer = Err (rejection why 0); port = p; notices = silent }
 
 -- an event that changes nothing at all
 abbrev pub unchanged : Port → Event
-unchanged p = record { answer = Done false; port = p; notices = silent }
+unchanged p = record { answer = Ok false; port = p; notices = silent }
 
 -- an event that leads from one port to another and raises a notice of the port, or none
 abbrev pub event : Raised → Port → Port → Event
-event x before after = record { answer = Done (asks before after); port = after; notices = raises x before after }
+event x before after = record { answer = Ok (asks before after); port = after; notices = raises x before after }

@@ -8,32 +8,23 @@ ghost use Rattle.events.specs.PortEvents.{noticed, becomes, raises, silent, refu
 
 use feature::{Reason, State};
 use notices::Kind;
-use port::{Answer, Event, Notices, Port, Raised};
-use tlv::Refusal;
+use port::{Event, Notices, Port, Raised};
+use tlv::{Refusal, Rejection};
 
 // Whether the feature is advertised and not Syncd.
+#[tactic(auto, unfolding(port::specs::Settled::unsynced))]
 fn unsynced(x: State) -> bool
     ensures { result ≡ unsynced x }
 {
-    let s = x.setting;
-    s.advertise & !x.syncd
+    x.setting.advertise & !x.syncd
 }
 
 // Whether the exchange has come to rest at this end: a peer is seen, RcvdAckNo = SeqNo, and every advertised feature is Syncd.
 pub fn settled(p: Port) -> bool
     ensures { result ≡ settled p }
 {
-    let k = p.control;
-    if !k.seen {
-        return false;
-    }
-    if k.rcvd != k.seq {
-        return false;
-    }
-    let g = unsynced(p.groups);
-    let w = unsynced(p.flow);
-    let a = unsynced(p.applications);
-    !(g | w | a)
+    let waits = unsynced(p.groups) | unsynced(p.flow) | unsynced(p.applications);
+    p.control.seen & (p.control.rcvd == p.control.seq) & !waits
 }
 
 // The notice that a reason gives when a feature comes to have it.
@@ -41,16 +32,16 @@ fn noticed(r: Reason) -> Raised
     ensures { result ≡ noticed r }
 {
     match r {
-        Reason::NoPeerYet => Raised::Nothing,
-        Reason::NotAdvertised => Raised::Nothing,
-        Reason::Absent => Raised::Notice(Kind::Absent),
-        Reason::Duplicate => Raised::Notice(Kind::Duplicate),
-        Reason::Bad => Raised::Notice(Kind::Bad),
-        Reason::Waiting => Raised::Nothing,
-        Reason::Disabled => Raised::Nothing,
-        Reason::Agreed => Raised::Nothing,
-        Reason::NotCompatible => Raised::Notice(Kind::NotCompatible),
-        Reason::ControlTwice => Raised::Nothing,
+        Reason::Absent => Some(Kind::Absent),
+        Reason::Duplicate => Some(Kind::Duplicate),
+        Reason::Bad => Some(Kind::Bad),
+        Reason::NotCompatible => Some(Kind::NotCompatible),
+        Reason::NoPeerYet
+        | Reason::NotAdvertised
+        | Reason::Waiting
+        | Reason::Disabled
+        | Reason::Agreed
+        | Reason::ControlTwice => None,
     }
 }
 
@@ -59,33 +50,23 @@ pub fn becomes(why: Reason, now: Reason) -> Raised
     ensures { result ≡ becomes why now }
 {
     if feature::reason_number(why) == feature::reason_number(now) {
-        return Raised::Nothing;
+        return None;
     }
     noticed(now)
-}
-
-fn reason_of(x: State) -> Reason
-    ensures { result ≡ x.outcome.reason }
-{
-    let o = x.outcome;
-    o.reason
 }
 
 // What an event raises: a notice of the port, or none, and those of the features.
 pub fn raise(x: Raised, before: Port, after: Port) -> Notices
     ensures { result ≡ raises x before after }
 {
-    let g = becomes(reason_of(before.groups), reason_of(after.groups));
-    let w = becomes(reason_of(before.flow), reason_of(after.flow));
-    let a = becomes(
-        reason_of(before.applications),
-        reason_of(after.applications),
-    );
     Notices {
         port: x,
-        groups: g,
-        flow: w,
-        applications: a,
+        groups: becomes(before.groups.outcome.reason, after.groups.outcome.reason),
+        flow: becomes(before.flow.outcome.reason, after.flow.outcome.reason),
+        applications: becomes(
+            before.applications.outcome.reason,
+            after.applications.outcome.reason,
+        ),
     }
 }
 
@@ -93,10 +74,7 @@ pub fn raise(x: Raised, before: Port, after: Port) -> Notices
 pub fn raised_number(x: Raised) -> u8
     ensures { result ≡ raised_number x }
 {
-    match x {
-        Raised::Nothing => 0,
-        Raised::Notice(kind) => notices::notice_number(kind),
-    }
+    x.map_or(0, u8::from)
 }
 
 // No notice.
@@ -104,10 +82,10 @@ pub fn silent() -> Notices
     ensures { result ≡ silent }
 {
     Notices {
-        port: Raised::Nothing,
-        groups: Raised::Nothing,
-        flow: Raised::Nothing,
-        applications: Raised::Nothing,
+        port: None,
+        groups: None,
+        flow: None,
+        applications: None,
     }
 }
 
@@ -115,11 +93,10 @@ pub fn silent() -> Notices
 pub fn refuse(why: Refusal, p: Port) -> Event
     ensures { result ≡ refused why p }
 {
-    let none = silent();
     Event {
-        answer: Answer::Refused(why, 0),
+        answer: Err(Rejection::from(why)),
         port: p,
-        notices: none,
+        notices: silent(),
     }
 }
 
@@ -127,11 +104,10 @@ pub fn refuse(why: Refusal, p: Port) -> Event
 pub fn unchanged(p: Port) -> Event
     ensures { result ≡ unchanged p }
 {
-    let none = silent();
     Event {
-        answer: Answer::Done(false),
+        answer: Ok(false),
         port: p,
-        notices: none,
+        notices: silent(),
     }
 }
 
@@ -139,11 +115,9 @@ pub fn unchanged(p: Port) -> Event
 pub fn conclude(x: Raised, before: Port, after: Port) -> Event
     ensures { result ≡ event x before after }
 {
-    let wish = port::writing::asks(before, after);
-    let raised = raise(x, before, after);
     Event {
-        answer: Answer::Done(wish),
+        answer: Ok(port::writing::asks(before, after)),
         port: after,
-        notices: raised,
+        notices: raise(x, before, after),
     }
 }

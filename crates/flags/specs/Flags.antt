@@ -1,13 +1,12 @@
 -- 01, Port events: flags and peer gone.
-use Rattle.std.specs.Prelude.{Bool, not, if◌then◌else◌}
+use Rattle.std.specs.Prelude.{Bool, not, if◌then◌else◌, None, Some}
 use Rattle.std.specs.Bool.{beq}
 use Rattle.tlv.specs.declared.Refusal.TheVariants.{NotRunning}
 use Rattle.notices.specs.declared.Kind.TheVariants as kind
 use Rattle.port.specs.declared.Flag.{Flag}
 use Rattle.port.specs.declared.Flag.TheVariants.{Admin, Receive, Transmit, Several}
 use Rattle.port.specs.declared.Port.{Port}
-use Rattle.port.specs.declared.Raised.{Raised}
-use Rattle.port.specs.declared.Raised.TheVariants as raised
+use Rattle.port.specs.Types.{Raised}
 use Rattle.port.specs.declared.Event.{Event}
 use Rattle.port.specs.Parts.{flag_of, with_flag, running}
 use Rattle.sending.specs.Sending.{fresh_port}
@@ -23,10 +22,10 @@ restarts Several on before after = on
 
 -- "3 several neighbours, 4 transmit off, 5 receive off (each when the flag changes so)"
 unfoldable pub flag_notice : Flag → Bool → Raised
-flag_notice Admin on = raised.Nothing
-flag_notice Receive on = if on then raised.Nothing else raised.Notice kind.ReceiveOff
-flag_notice Transmit on = if on then raised.Nothing else raised.Notice kind.TransmitOff
-flag_notice Several on = if on then raised.Notice kind.SeveralNeighbours else raised.Nothing
+flag_notice Admin on = None
+flag_notice Receive on = if on then None else Some kind.ReceiveOff
+flag_notice Transmit on = if on then None else Some kind.TransmitOff
+flag_notice Several on = if on then Some kind.SeveralNeighbours else None
 
 unfoldable pub flag_set : Flag → Bool → Port → Port
 flag_set flag on p = if restarts flag on p (with_flag p flag on) then fresh_port (with_flag p flag on) else with_flag p flag on
@@ -41,4 +40,4 @@ flagged flag on p =
 unfoldable pub peer_gone : Port → Event
 peer_gone p =
     if not (running p) then refused NotRunning p
-    else event (if p.control.seen then raised.Notice kind.PeerGone else raised.Nothing) p (fresh_port p)
+    else event (if p.control.seen then Some kind.PeerGone else None) p (fresh_port p)

@@ -23,69 +23,41 @@ fn flag_of(p: Port, flag: Flag) -> bool
 fn with_flag(p: Port, flag: Flag, on: bool) -> Port
     ensures { result ≡ with_flag p flag on }
 {
-    let mut next = p;
     match flag {
-        Flag::Admin => {
-            next.admin = on;
-            return next;
-        }
-        Flag::Receive => {
-            next.receive = on;
-            return next;
-        }
-        Flag::Transmit => {
-            next.transmit = on;
-            return next;
-        }
-        Flag::Several => {
-            next.several = on;
-            return next;
-        }
+        Flag::Admin => Port { admin: on, ..p },
+        Flag::Receive => Port { receive: on, ..p },
+        Flag::Transmit => Port { transmit: on, ..p },
+        Flag::Several => Port { several: on, ..p },
     }
 }
 
 // The notice that a flag gives when it changes so.
+#[tactic(auto, unfolding(crate::specs::Flags::flag_notice))]
 fn flag_notice(flag: Flag, on: bool) -> Raised
     ensures { result ≡ flag_notice flag on }
 {
-    match flag {
-        Flag::Admin => {
-            return Raised::Nothing;
-        }
-        Flag::Receive => {
-            if on {
-                return Raised::Nothing;
-            }
-            return Raised::Notice(Kind::ReceiveOff);
-        }
-        Flag::Transmit => {
-            if on {
-                return Raised::Nothing;
-            }
-            return Raised::Notice(Kind::TransmitOff);
-        }
-        Flag::Several => {
-            if on {
-                return Raised::Notice(Kind::SeveralNeighbours);
-            }
-            return Raised::Nothing;
-        }
+    match (flag, on) {
+        (Flag::Receive, false) => Some(Kind::ReceiveOff),
+        (Flag::Transmit, false) => Some(Kind::TransmitOff),
+        (Flag::Several, true) => Some(Kind::SeveralNeighbours),
+        _ => None,
     }
 }
 
 // Whether a change of the flag leads to the fresh state.
+#[tactic(auto, unfolding(crate::specs::Flags::restarts))]
 fn restarts(flag: Flag, on: bool, before: Port, after: Port) -> bool
     ensures { result ≡ restarts flag on before after }
 {
-    let differs = port::writing::running(before) != port::writing::running(after);
     match flag {
-        Flag::Admin => differs,
-        Flag::Receive => differs,
-        Flag::Transmit => differs,
+        Flag::Admin | Flag::Receive | Flag::Transmit => {
+            port::writing::running(before) != port::writing::running(after)
+        }
         Flag::Several => on,
     }
 }
 
+#[tactic(auto, unfolding(crate::specs::Flags::flag_set))]
 fn set_flag_to(p: Port, flag: Flag, on: bool) -> Port
     ensures { result ≡ flag_set flag on p }
 {
@@ -97,6 +69,7 @@ fn set_flag_to(p: Port, flag: Flag, on: bool) -> Port
 }
 
 // Sets one flag (01, Port events).
+#[tactic(auto, unfolding(crate::specs::Flags::flagged))]
 pub fn set_flag(p: Port, flag: Flag, on: bool) -> Event
     ensures { result ≡ flagged flag on p }
 {
@@ -107,16 +80,13 @@ pub fn set_flag(p: Port, flag: Flag, on: bool) -> Event
 }
 
 // The peer is gone (01, Port events).
+#[tactic(auto, unfolding(crate::specs::Flags::peer_gone))]
 pub fn peer_gone(p: Port) -> Event
     ensures { result ≡ peer_gone p }
 {
     if !port::writing::running(p) {
         return events::refuse(Refusal::NotRunning, p);
     }
-    let c = p.control;
-    let next = sending::fresh(p);
-    if c.seen {
-        return events::conclude(Raised::Notice(Kind::PeerGone), p, next);
-    }
-    events::conclude(Raised::Nothing, p, next)
+    let gone = p.control.seen.then_some(Kind::PeerGone);
+    events::conclude(gone, p, sending::fresh(p))
 }

@@ -12,6 +12,7 @@ use feature::State;
 use port::{Control, Port, Released};
 
 // Whether the feature waits for an acknowledgement: one that is withdrawn does, too (02, E5).
+#[tactic(auto, unfolding(crate::specs::Sending::unacknowledged))]
 pub fn waits(x: State) -> bool
     ensures { result ≡ unacknowledged x }
 {
@@ -32,22 +33,20 @@ pub fn count(k: Control, up: bool) -> Control
     if !up {
         return k;
     }
-    let mut next = k;
-    next.seq = std::num::wrapping_add_u32(k.seq, 1);
-    next
+    Control {
+        seq: k.seq.wrapping_add(1),
+        ..k
+    }
 }
 
 // What a release would write of three features at present (02, E5).
 pub fn presents(g: State, w: State, a: State) -> Released
     ensures { result ≡ presents g w a }
 {
-    let x = machine::present(g);
-    let y = machine::present(w);
-    let z = machine::present(a);
     Released {
-        groups: x,
-        flow: y,
-        applications: z,
+        groups: machine::present(g),
+        flow: machine::present(w),
+        applications: machine::present(a),
     }
 }
 
@@ -74,7 +73,7 @@ pub fn fresh_control(max: u8) -> Control
     ensures { result ≡ fresh_control max }
 {
     Control {
-        max: max,
+        max,
         oper: max,
         seq: 0,
         ack: 0,
@@ -88,8 +87,7 @@ pub fn fresh_control(max: u8) -> Control
 fn fresh_feature(x: State) -> State
     ensures { result ≡ fresh x.max x.setting }
 {
-    let s = x.setting;
-    machine::fresh_at(1, x.max, s)
+    machine::fresh_at(1, x.max, x.setting)
 }
 
 pub fn with_features(p: Port, g: State, w: State, a: State) -> Port
@@ -105,14 +103,13 @@ pub fn with_features(p: Port, g: State, w: State, a: State) -> Port
 fn fresh_parts(p: Port) -> Port
     ensures { result ≡ fresh_parts p }
 {
-    let c = p.control;
     let mut next = with_features(
         p,
         fresh_feature(p.groups),
         fresh_feature(p.flow),
         fresh_feature(p.applications),
     );
-    next.control = fresh_control(c.max);
+    next.control = fresh_control(p.control.max);
     next.released = presents(next.groups, next.flow, next.applications);
     next
 }
@@ -120,10 +117,12 @@ fn fresh_parts(p: Port) -> Port
 fn stop(p: Port) -> Port
     ensures { result ≡ with_features p (λ f. stopped (feature_of p f)) }
 {
-    let g = machine::stopped(p.groups);
-    let w = machine::stopped(p.flow);
-    let a = machine::stopped(p.applications);
-    with_features(p, g, w, a)
+    with_features(
+        p,
+        machine::stopped(p.groups),
+        machine::stopped(p.flow),
+        machine::stopped(p.applications),
+    )
 }
 
 // The fresh state of the port's settings (01, Port events).

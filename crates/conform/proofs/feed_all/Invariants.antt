@@ -1,9 +1,0 @@
--- `feed_all` is safe and ends. Assumes nothing.
-use Rattle.std.proofs.Common.{◌≡◌, length}
-use Rattle.conform.proofs.feed_all.Given as goal
-
-abbrev pub invariant-loop-turns : goal.invariant-loop-turns
-invariant-loop-turns l = length l.input ≡ length l.initial.input
-
-abbrev pub decreases-loop-turns : goal.decreases-loop-turns
-decreases-loop-turns l = l.turns
