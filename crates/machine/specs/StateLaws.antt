@@ -1,5 +1,5 @@
 -- A feature's state, a law for each way out of its functions: premises in the form in which a test leaves them. Assumes nothing.
-use Rattle.std.specs.Prelude.{◌≡◌, ℕ, ◌+◌, ◌*◌, ◌/◌, ◌%◌, ◌≤◌, Bool, true, false, not, List, [], ◌∷◌, length, take, ◌≢◌}
+use Rattle.std.specs.Prelude.{Some, ◌≡◌, ℕ, ◌+◌, ◌*◌, ◌/◌, ◌%◌, ◌≤◌, Bool, true, false, not, List, [], ◌∷◌, length, take, ◌≢◌}
 use Rattle.std.specs.Bool.{beq}
 use Rattle.std.proofs.Math.Bool.{and-false}
 use Rattle.std.proofs.lemmas.Bool.{false≢true}
@@ -24,7 +24,7 @@ use Rattle.feature.specs.declared.Outcome.{Outcome}
 use Rattle.feature.specs.declared.State.{State}
 use Rattle.feature.specs.declared.Release.{Release}
 use Rattle.feature.specs.Outcome.{without_peer, judged}
-use Rattle.feature.specs.OutcomeLaws.{decided, outcome_of, peer_of, judged_lent, judged_on, judges, switches_of, with_mode}
+use Rattle.feature.specs.OutcomeLaws.{decided, peer_flags, outcome_of, outcome_again, judged_lent, judged_with, judges, switches_of, with_mode}
 use Rattle.feature.specs.RulesLaws.{judged_peer}
 use Rattle.machine.specs.State.{next, fresh_at, flags, value, release_tlv, present, differing, changed, marked, setting_of, same_setting}
 
@@ -154,20 +154,17 @@ module _ (s t : Setting) where
           simp (e, not-false (beq s.advertise t.advertise) a, not-false (beq s.enable t.enable) b, not-false (beq s.willing t.willing) c)
 
 -- rules 6 to 9 for a peer that is held, whose parameters stay
-pub judged_held : (f : Feature) (s : Setting) (oper : ℕ) (p : Peer) → p.held ≡ true → {x : Switches} → x ≡ switches_of s → {m n : ℕ} {own t : List ℕ}
-    → m ≡ s.desired.length → own ≡ take m s.desired.octets → n ≡ p.parameters.length → t ≡ take n p.parameters.octets → {d : Decision}
-    → d ≡ judged_on f x own oper (record { enable = p.enable; willing = p.willing; error = p.error }) t
+pub judged_held : (f : Feature) (s : Setting) (oper : ℕ) (p : Peer) {x : Switches} → x ≡ switches_of s → {m n : ℕ} {own t : List ℕ}
+    → m ≡ s.desired.length → own ≡ take m s.desired.octets → n ≡ p.parameters.length → t ≡ take n p.parameters.octets → {w : Flags} → w ≡ peer_flags p → {d : Decision}
+    → d ≡ judged_with x oper w (compatible f own t)
     → {r : Outcome} → r ≡ outcome_of d p.parameters → r ≡ judged f s oper p
-judged_held f s oper p h {x} ex {m} {n} {own} {t} em eo en et {d} ed er =
-    let w : Flags = record { enable = p.enable; willing = p.willing; error = p.error } in
-    let q : Peer = peer_of w p.parameters in
-    let k : q ≡ p = λ i. record { held = sym h i; enable = p.enable; willing = p.willing; error = p.error; parameters = p.parameters } in
-    let e : d ≡ decided (judged f s oper q) =
-    judged_lent f s oper w t ex em eo ed ∙ judges f s oper w t p.parameters (ap (compatible f (content s.desired)) (sym (content_of p.parameters en et))) in
-    let m : (judged f s oper q).peer ≡ q = judged_peer f s oper q in
-    er ∙ ap (λ (d : Decision). outcome_of d p.parameters) e
-    ∙ (λ i. outcome_of (decided (judged f s oper q)) (sym m i).parameters)
-    ∙ ap (judged f s oper) k
+judged_held f s oper p {x} ex {m} {n} {own} {t} em eo en et {w} ew {d} ed er =
+    let v : Flags = peer_flags p in
+    let e : d ≡ decided (judged f s oper p) =
+    judged_lent f s oper v t ex em eo (ed ∙ ap (λ (u : Flags). judged_with x oper u (compatible f own t)) ew)
+    ∙ judges f s oper v t p.parameters (ap (compatible f (content s.desired)) (sym (content_of p.parameters en et))) in
+    let m : (judged f s oper p).peer ≡ Some p = judged_peer f s oper p in
+    er ∙ ap (λ (d : Decision). outcome_of d p.parameters) e ∙ outcome_again (judged f s oper p) p m
 
 -- ---- writing
 

@@ -22,22 +22,22 @@ pub fn fresh_at(sequence: u32, max: u8, s: Setting) -> State
             feature::no_parameters(),
         );
         return State {
-            max: max,
+            max,
             setting: s,
-            outcome: outcome,
+            outcome,
             syncd: false,
-            sequence: sequence,
+            sequence,
         };
     }
     let mut decision = feature::without_peer(Reason::NotAdvertised, max, false);
     decision.mode = s.enable;
     let outcome = feature::outcome_of(decision, feature::no_parameters());
     State {
-        max: max,
+        max,
         setting: s,
-        outcome: outcome,
+        outcome,
         syncd: true,
-        sequence: sequence,
+        sequence,
     }
 }
 
@@ -87,8 +87,8 @@ fn same_content(a: Parameters, b: Parameters) -> bool
     ensures { result ≡ same (content a) (content b) }
 {
     octets::same_octets(
-        octets::first(&a.octets, octets::wide(a.length)),
-        octets::first(&b.octets, octets::wide(b.length)),
+        octets::first(&a.octets, usize::from(a.length)),
+        octets::first(&b.octets, usize::from(b.length)),
     )
 }
 
@@ -167,19 +167,14 @@ pub fn same_setting(s: Setting, t: Setting) -> bool
 
 // Rules 6 to 9 again, for a peer that is held.
 fn judge_held(f: Feature, s: Setting, oper: u8, p: Peer) -> Outcome
-    requires { p.held ≡ true }
     ensures { result ≡ judged f s oper p }
 {
     let q = p.parameters;
-    let flags = Flags {
-        enable: p.enable,
-        willing: p.willing,
-        error: p.error,
-    };
-    let own = feature::switches_of(s);
-    let desired = octets::first(&s.desired.octets, octets::wide(s.desired.length));
-    let theirs = octets::first(&q.octets, octets::wide(q.length));
-    let decision = feature::judge_anew(f, own, desired, oper, flags, theirs);
+    let desired = octets::first(&s.desired.octets, usize::from(s.desired.length));
+    let theirs = octets::first(&q.octets, usize::from(q.length));
+    let decision = feature::judge(Switches::from(s), oper, Flags::from(p), || {
+        config::compatible(f, desired, theirs)
+    });
     feature::outcome_of(decision, q)
 }
 
@@ -187,19 +182,20 @@ fn judge_held(f: Feature, s: Setting, oper: u8, p: Peer) -> Outcome
 fn judge_again(f: Feature, s: Setting, o: Outcome) -> Outcome
     ensures { result ≡ judged_again f s o }
 {
-    let peer = o.peer;
     if !s.advertise {
         let mut next = o;
         next.mode = s.enable;
         next.adopts = false;
         return next;
     }
-    if peer.held {
-        return judge_held(f, s, o.oper, peer);
+    match o.peer {
+        Some(peer) => judge_held(f, s, o.oper, peer),
+        None => {
+            let mut next = o;
+            next.adopts = false;
+            next
+        }
     }
-    let mut next = o;
-    next.adopts = false;
-    next
 }
 
 // The feature under another setting.
