@@ -212,7 +212,9 @@ fn read_new_port(input: &mut Input, seen: &[bool; 256]) -> Result<Settings, Wron
 pub fn first_invalid(s: Settings) -> Option<Invalid> {
     let of_groups = s.groups.invalid(Feature::Groups);
     let of_flow = s.flow.invalid(Feature::Flow);
-    let of_applications = s.applications.and_then(|a| a.invalid(Feature::Applications));
+    let of_applications = s
+        .applications
+        .and_then(|a| a.invalid(Feature::Applications));
     of_groups.or(of_flow).or(of_applications)
 }
 
@@ -322,11 +324,7 @@ pub fn port_with(s: Settings) -> Port {
 
 // Reads the settings of ports, creates them and puts the answers, none of which has a notice; behind the settings the events begin.
 // All lines are read, and what is wrong with one counts before a port that is refused. A port comes once, so 257 turns are enough.
-pub fn read_recorder(
-    input: &mut Input,
-    page: &mut Output,
-    alone: bool,
-) -> Result<Recorder, Wrong> {
+pub fn read_recorder(input: &mut Input, page: &mut Output, alone: bool) -> Result<Recorder, Wrong> {
     let mut made = recorder::blank();
     let mut seen = [false; 256];
     let mut refused = None;

@@ -7,6 +7,7 @@ use printing::Output;
 
 pub trait Program {
     const NAME: &'static str;
+
     const USAGE: &'static str;
 
     // Reads the settings, and if nothing is wrong with them does the work. `alone` says that they stand alone in a file.
