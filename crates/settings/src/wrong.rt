@@ -18,11 +18,26 @@ pub struct Invalid {
 #[derive(Clone, Copy)]
 pub enum Wrong {
     Failed,
-    Missing { line: u64, due: Part },
-    Unread { line: u64, port: Option<u8>, why: Unread },
-    OtherPort { line: u64, due: u8 },
-    Again { line: u64 },
-    Refused { line: u64, why: Refusal },
+    Missing {
+        line: u64,
+        due: Part,
+    },
+    Unread {
+        line: u64,
+        port: Option<u8>,
+        why: Unread,
+    },
+    OtherPort {
+        line: u64,
+        due: u8,
+    },
+    Again {
+        line: u64,
+    },
+    Refused {
+        line: u64,
+        why: Refusal,
+    },
     Invalid(Invalid),
 }
 
@@ -45,7 +60,9 @@ impl Wrong {
             Wrong::Missing { line, due } => {
                 report::errors::missing(page, line, setup::part_name(due));
             }
-            Wrong::Unread { line, port, why } => report::errors::unread(page, true, line, port, why),
+            Wrong::Unread { line, port, why } => report::errors::unread(
+                page, true, line, port, why,
+            ),
             Wrong::OtherPort { line, due } => report::errors::port_due(page, line, due),
             Wrong::Again { line } => report::errors::another_due(page, line),
             Wrong::Refused { line, why } => report::answers::refused_setting(page, line, why),
