@@ -1,5 +1,5 @@
 -- Laws of `all_from`, a test of each number of a run. Assumes nothing.
-use Rattle.std.specs.Prelude.{ℕ, zero, suc, ◌+◌, ◌-◌, ◌≤◌, ◌<◌, ◌≡◌, refl, Bool, true, false, ◌&&◌}
+use Rattle.std.specs.Prelude.{ℕ, zero, suc, ◌+◌, ◌≤◌, ◌<◌, ◌≡◌, refl, Bool, true, false, ◌&&◌}
 use native.Mathlib.Omega.{arith}
 use Rattle.std.proofs.Common.{sym, ap, ◌∙◌, eqb-true}
 use Rattle.std.proofs.Math.Path.{fun_ext}
@@ -7,30 +7,6 @@ use Rattle.std.proofs.lemmas.Bool.{false≢true, eqb-false}
 use Rattle.octets.specs.Words.{◌is◌}
 use Rattle.octets.specs.Laws.{and_left, and_right}
 use Rattle.parameters.specs.Parameters.{all_from}
-
--- ---- the walk over the numbers below n: the test held before i, and the numbers from i on decide
-
-pub record Passed (n : ℕ) (test : ℕ → Bool) (i : ℕ) : Type 0 where
-  pub within : i ≤ n
-  pub left : all_from (n - i) i test ≡ all_from n 0 test
-
-pub passed_start : (n : ℕ) (test : ℕ → Bool) → Passed n test 0
-passed_start n test = let e : n - 0 ≡ n = omega arith in record { within = omega arith; left = rw e refl }
-
-passed_here : {n : ℕ} {test : ℕ → Bool} {i : ℕ} → Passed n test i → i < n → (test i && all_from (n - (i + 1)) (i + 1) test) ≡ all_from n 0 test
-unfolding all_from
-passed_here {n} {test} {i} p h = let e : n - i ≡ suc (n - (i + 1)) = omega arith in rw e at p.left
-
-module _ {n : ℕ} {test : ℕ → Bool} {i : ℕ} where
-  pub passed_more : Passed n test i → i < n → test i ≡ true → Passed n test (i + 1)
-  passed_more p h t = record { within = omega arith; left = rw t at (passed_here p h) }
-
-  pub passed_not : Passed n test i → i < n → test i ≡ false → false ≡ all_from n 0 test
-  passed_not p h f = rw f at (passed_here p h)
-
-  pub passed_end : Passed n test i → n ≤ i → true ≡ all_from n 0 test
-  unfolding all_from
-  passed_end p h = let e : n - i ≡ 0 = omega arith in rw e at p.left
 
 -- ---- tests and facts
 

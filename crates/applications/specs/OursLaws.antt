@@ -7,29 +7,13 @@ use Rattle.std.proofs.Math.Path.{refl, sym, ap}
 use Rattle.std.proofs.Math.Bool.{true, false, not}
 use mathlib.Core.List.{List, [], ◌++◌, append-nil, append_assoc}
 use Rattle.std.proofs.Math.ListN.{length, get_or-append}
-use borrow.Author.Tests.{lt-ltb, le-ltb, eq-eqb, ne_eqb, eqb-true, eqb-false}
+use borrow.Author.Tests.{eqb-true, eqb-false}
 use Rattle.octets.specs.Words.{◌is◌}
 use Rattle.octets.specs.Octets.{at}
 use Rattle.parameters.specs.declared.Feature.{Feature}
 use Rattle.parameters.specs.declared.Feature.TheVariants.{Groups, Flow, Applications}
 use Rattle.applications.specs.AllLaws.{and_true, all_same, all_alike, all_behind}
 use Rattle.parameters.specs.Parameters.{entry_count, id_of, selector_of, map_of, same_name, all_from, is_ours, ours_of, ours, clash, clear_of, compatible}
-
--- ---- an entry is ours by its three octets
-
-module _ (p : List ℕ) (i : ℕ) where
-  pub ours_high : 4 ≤ at p (6 * i + 2) → false ≡ is_ours p i
-  unfolding is_ours
-  ours_high h = simp (le-ltb (at p (6 * i + 2)) 4 h)
-
-  module _ (h : at p (6 * i + 2) < 4) where
-    pub ours_1b : (at p (6 * i + 3) ≡ 27 → ⊥) → false ≡ is_ours p i
-    unfolding is_ours
-    ours_1b k = simp (lt-ltb (at p (6 * i + 2)) 4 h, ne_eqb (at p (6 * i + 3)) 27 k)
-
-    pub ours_21 : at p (6 * i + 3) ≡ 27 → at p (6 * i + 4) is 33 ≡ is_ours p i
-    unfolding is_ours
-    ours_21 k = simp (lt-ltb (at p (6 * i + 2)) 4 h, eq-eqb (at p (6 * i + 3)) 27 k)
 
 -- ---- entry i of e is entry j of p, octet by octet
 
@@ -40,7 +24,7 @@ module _ {e : List ℕ} {i : ℕ} {p : List ℕ} {j : ℕ} (s : SameEntry e i p 
   id_same : id_of e i ≡ id_of p j
   id_same = let h : at e (6 * i) ≡ at p (6 * j) = rw (add-zero (6 * i), add-zero (6 * j)) at (s.octet 0 (lit< tt)) in rw (h, s.octet 1 (lit< tt))
 
-  selector_same : selector_of e i ≡ selector_of p j
+  pub selector_same : selector_of e i ≡ selector_of p j
   selector_same = rw (s.octet 2 (lit< tt))
 
   map_same : map_of e i ≡ map_of p j
@@ -58,9 +42,10 @@ name_same s t = rw (id_same s, id_same t, selector_same s, selector_same t)
 pub entry_itself : (p : List ℕ) (i : ℕ) → SameEntry p i p i
 entry_itself p i = record { octet = λ x h. refl }
 
-clash_same : (o : List ℕ) (n : ℕ) {e : List ℕ} {i : ℕ} {p : List ℕ} {j : ℕ} → SameEntry e i p j → clash o n e i ≡ clash o n p j
+pub clash_same : {e : List ℕ} {i : ℕ} {p : List ℕ} {j : ℕ} {q : List ℕ} {k : ℕ} {r : List ℕ} {l : ℕ} → SameEntry e i p j → SameEntry q k r l
+    → clash e i q k ≡ clash p j r l
 unfolding clash
-clash_same o n s = rw (name_same (entry_itself o n) s, own_same s, map_same s)
+clash_same s t = rw (name_same s t, own_same s, own_same t, map_same s, map_same t)
 
 -- an entry before the seam of two lists, and the one behind it
 pub entry_before : (a b : List ℕ) (k i : ℕ) → length a ≡ 6 * k → i < k → SameEntry (a ++ b) i a i
@@ -196,7 +181,7 @@ module _ (o p : List ℕ) (n : ℕ) where
           let y : 0 + m ≡ m = omega arith in
           ap (λ (i : ℕ). all_from i 0 (λ j. not (clash o n (ours_of (suc m) p) j))) c
           ∙ all_behind k 0 (λ j. not (clash o n (ours_of (suc m) p) j))
-          ∙ rw (all_alike k 0 (λ j. not (clash o n (ours_of (suc m) p) j)) (λ j. not (clash o n (ours_of m p) j)) (λ j i. ap not (clash_same o n (own_before p m l t (omega arith)))), r, x, y, clash_same o n (own_last p m l t)) refl
+          ∙ rw (all_alike k 0 (λ j. not (clash o n (ours_of (suc m) p) j)) (λ j. not (clash o n (ours_of m p) j)) (λ j i. ap not (clash_same (entry_itself o n) (own_before p m l t (omega arith)))), r, x, y, clash_same (entry_itself o n) (own_last p m l t)) refl
       by false f r =
           let y : 0 + m ≡ m = omega arith in
           ap (λ (q : List ℕ). all_from (entry_count q) 0 (λ j. not (clash o n q j))) (ours_foreign p m f) ∙ r ∙ rw (y, clash_foreign m f) (sym (and_true (all_from m 0 (λ j. not (clash o n p j)))))

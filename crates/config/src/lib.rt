@@ -3,7 +3,7 @@
 
 ghost use Rattle.std.specs.Prelude.{◌≡◌, true};
 ghost use Rattle.parameters.specs.declared.Feature.TheVariants.{Applications};
-ghost use Rattle.parameters.specs.Parameters.{compatible, ours, stored, valid, valid_local};
+ghost use Rattle.parameters.specs.Parameters.{compatible, local_values, ours, stored, valid, valid_local};
 
 use parameters::{Feature, Parameters};
 
@@ -18,18 +18,24 @@ pub fn valid(f: Feature, p: &[u8]) -> bool
     }
 }
 
-// Whether they are valid as a local setting (01, Refusal numbers).
-pub fn valid_local(f: Feature, p: &[u8]) -> bool
-    ensures { result ≡ valid_local f p.now }
+// Whether they have the values that a local setting may have.
+#[tactic(auto, unfolding(parameters::specs::Parameters::local_values))]
+fn local_values(f: Feature, p: &[u8]) -> bool
+    ensures { result ≡ local_values f p.now }
 {
-    if !valid(f, p) {
-        return false;
-    }
     match f {
         Feature::Groups => true,
         Feature::Flow => parameters::flow::local_values(p),
         Feature::Applications => applications::local_values(p),
     }
+}
+
+// Whether they are valid as a local setting.
+#[tactic(auto, unfolding(parameters::specs::Parameters::valid_local))]
+pub fn valid_local(f: Feature, p: &[u8]) -> bool
+    ensures { result ≡ valid_local f p.now }
+{
+    valid(f, p) && local_values(f, p)
 }
 
 // Whether the parameters of two ends are compatible (01, Outcome rules).
@@ -45,14 +51,12 @@ pub fn compatible(f: Feature, p: &[u8], q: &[u8]) -> bool
 
 // The same of applications, where the other end's are valid: valid ones suit themselves, so that the same octets need no walk over
 // pairs of entries.
+#[tactic(auto, using(crate::specs::CompatibleLaws::compatible_same))]
 fn suits_entries(own: &[u8], theirs: &[u8]) -> bool
     requires { valid Applications theirs.now ≡ true }
     ensures { result ≡ compatible Applications own.now theirs.now }
 {
-    if octets::same_octets(own, theirs) {
-        return true;
-    }
-    applications::compatible(own, theirs)
+    octets::same_octets(own, theirs) || applications::compatible(own, theirs)
 }
 
 // Whether parameters that came in a frame are compatible with the end's own, where they are valid; hence the `requires`.
@@ -61,19 +65,18 @@ pub fn suits(f: Feature, own: &[u8], theirs: &[u8]) -> bool
     ensures { result ≡ compatible f own.now theirs.now }
 {
     match f {
-        Feature::Groups => parameters::groups::compatible(own, theirs),
-        Feature::Flow => parameters::flow::compatible(own, theirs),
+        Feature::Groups | Feature::Flow => compatible(f, own, theirs),
         Feature::Applications => suits_entries(own, theirs),
     }
 }
 
 // The parameters as a state holds them: of applications the entries that are ours.
+#[tactic(auto, unfolding(parameters::specs::Parameters::ours))]
 pub fn store(f: Feature, p: &[u8]) -> Parameters
     ensures { result ≡ stored (ours f p.now) }
 {
     match f {
-        Feature::Groups => parameters::store_all(p),
-        Feature::Flow => parameters::store_all(p),
+        Feature::Groups | Feature::Flow => parameters::store_all(p),
         Feature::Applications => applications::store(p),
     }
 }

@@ -37,7 +37,7 @@ impl Course for Judged {
         page.text(octets::first(&text, n));
         match judged.rejected {
             None => findings::accepted(page, judged.course),
-            Some(_) => findings::rejected(page, judged),
+            Some(rejected) => findings::rejected(page, &judged, &rejected),
         }
     }
 }

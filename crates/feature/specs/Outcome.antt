@@ -1,5 +1,5 @@
 -- 01, Outcome rules for one feature: once for all three.
-use Rattle.std.specs.Prelude.{ℕ, ◌%◌, min, Bool, true, false, not, ◌&&◌, ◌||◌, List, length, drop, if◌then◌else◌}
+use Rattle.std.specs.Prelude.{Option, None, Some, ℕ, ◌%◌, min, Bool, true, false, not, ◌&&◌, ◌||◌, List, length, drop, if◌then◌else◌}
 use Rattle.std.specs.Bool.{beq}
 use Rattle.octets.specs.Words.{◌below◌, ◌atmost◌, ◌is◌}
 use Rattle.octets.specs.Octets.{at}
@@ -40,12 +40,17 @@ parameters_of v = drop 4 v
 abbrev pub lower : ℕ → ℕ → ℕ
 lower a b = min a b
 
-abbrev pub no_peer : Peer
-no_peer = record { held = false; enable = false; willing = false; error = false; parameters = no_parameters }
+abbrev pub no_peer : Option Peer
+no_peer = None
+
+-- the parameters held of a peer
+abbrev pub parameters_held : Option Peer → Parameters
+parameters_held None = no_parameters
+parameters_held (Some p) = p.parameters
 
 -- "Otherwise the peer is held, its three flags and its parameters"; of application entries those that are ours (02, E3)
 abbrev pub held_peer : Feature → List ℕ → Peer
-held_peer f v = record { held = true; enable = enable_of v; willing = willing_of v; error = error_of v; parameters = stored (ours f (parameters_of v)) }
+held_peer f v = record { enable = enable_of v; willing = willing_of v; error = error_of v; parameters = stored (ours f (parameters_of v)) }
 
 -- "In 1 to 5 peer is none, mode false, OperCfg = DesiredCfg."
 abbrev pub without_peer : Reason → ℕ → Bool → Outcome
@@ -53,11 +58,11 @@ without_peer why oper error = record { reason = why; oper = oper; error = error;
 
 -- what rules 6 to 9 share: the version, and the peer that is held
 abbrev pub with_peer : Reason → ℕ → Bool → Bool → Peer → Bool → Outcome
-with_peer why oper error mode p adopts = record { reason = why; oper = oper; error = error; mode = mode; peer = p; adopts = adopts }
+with_peer why oper error mode p adopts = record { reason = why; oper = oper; error = error; mode = mode; peer = Some p; adopts = adopts }
 
 -- OperCfg, of a setting and what the rules decided: the peer's configuration where it is adopted, and else DesiredCfg
 abbrev pub configuration : Setting → Outcome → Parameters
-configuration s o = if o.adopts then o.peer.parameters else s.desired
+configuration s o = if o.adopts then parameters_held o.peer else s.desired
 
 -- Rules 6 to 9, at a version and with a peer that is held. "In 7 and 8 the reason is "agreed" and the mode is true exactly if the
 -- peer's error flag is clear."

@@ -1,6 +1,6 @@
 -- The outcome rules by what they decide beside the peer's parameters, a law for each: premises in the form in which a test leaves
 -- them. Assumes nothing.
-use Rattle.std.specs.Prelude.{ℕ, ◌<◌, ◌≤◌, Bool, false, not, ◌&&◌, ◌≡◌, refl, List, length, take}
+use Rattle.std.specs.Prelude.{Option, None, Some, ℕ, ◌<◌, ◌≤◌, Bool, false, not, ◌&&◌, ◌≡◌, refl, List, length}
 use Rattle.std.proofs.Math.Bool.{true}
 use Rattle.std.specs.Bool.{beq}
 use Rattle.std.proofs.Common.{◌∙◌, arith}
@@ -11,7 +11,6 @@ use Rattle.parameters.specs.declared.Parameters.{Parameters}
 use Rattle.parameters.specs.Parameters.{valid, compatible, content, ours, stored, no_parameters}
 use Rattle.config.specs.FeatureLaws.{ours_length}
 use Rattle.parameters.specs.StoringLaws.{content_stored}
-use Rattle.parameters.specs.WritingLaws.{content_of}
 use Rattle.applications.specs.OursLaws.{compatible_ours}
 use Rattle.feature.specs.declared.Reason.TheVariants.{Absent, Duplicate, Bad, Waiting, Disabled, Agreed, NotCompatible}
 use Rattle.feature.specs.declared.Setting.{Setting}
@@ -20,10 +19,18 @@ use Rattle.feature.specs.declared.Flags.{Flags}
 use Rattle.feature.specs.declared.Switches.{Switches}
 use Rattle.feature.specs.declared.Decision.{Decision}
 use Rattle.feature.specs.declared.Outcome.{Outcome}
-use Rattle.feature.specs.Outcome.{oper_of, max_of, enable_of, willing_of, error_of, parameters_of, configuration, lower, without_peer, with_peer, judged, outcome}
+use Rattle.feature.specs.Outcome.{oper_of, max_of, enable_of, willing_of, error_of, parameters_of, configuration, parameters_held, lower, without_peer, with_peer, judged, outcome}
 use Rattle.feature.specs.RulesLaws.{judged_by, judged_by_lem}
 
 -- ---- an outcome in two parts
+
+-- the flags of a peer that is held
+abbrev pub peer_flags : Peer → Flags
+peer_flags p = record { enable = p.enable; willing = p.willing; error = p.error }
+
+abbrev pub flags_held : Option Peer → Option Flags
+flags_held None = None
+flags_held (Some p) = Some (peer_flags p)
 
 abbrev pub decided : Outcome → Decision
 decided o =
@@ -32,41 +39,38 @@ decided o =
       oper = o.oper;
       error = o.error;
       mode = o.mode;
-      held = o.peer.held;
-      enable = o.peer.enable;
-      willing = o.peer.willing;
-      fault = o.peer.error;
+      peer = flags_held o.peer;
       adopts = o.adopts;
     }
 
+-- a peer that is held
+abbrev pub peer_of : Flags → Parameters → Peer
+peer_of w p = record { enable = w.enable; willing = w.willing; error = w.error; parameters = p }
+
+abbrev pub peer_with : Option Flags → Parameters → Option Peer
+peer_with None p = None
+peer_with (Some w) p = Some (peer_of w p)
+
 abbrev pub outcome_of : Decision → Parameters → Outcome
-outcome_of d p =
-    record {
-      reason = d.reason;
-      oper = d.oper;
-      error = d.error;
-      mode = d.mode;
-      peer = record { held = d.held; enable = d.enable; willing = d.willing; error = d.fault; parameters = p };
-      adopts = d.adopts;
-    }
+outcome_of d p = record { reason = d.reason; oper = d.oper; error = d.error; mode = d.mode; peer = peer_with d.peer p; adopts = d.adopts }
 
 abbrev pub with_mode : Decision → Bool → Decision
-with_mode d mode =
-    record {
-      reason = d.reason;
-      oper = d.oper;
-      error = d.error;
-      mode = mode;
-      held = d.held;
-      enable = d.enable;
-      willing = d.willing;
-      fault = d.fault;
-      adopts = d.adopts;
-    }
+with_mode d mode = record { reason = d.reason; oper = d.oper; error = d.error; mode = mode; peer = d.peer; adopts = d.adopts }
+
+-- both parts together
+pub outcome_whole : (o : Outcome) → outcome_of (decided o) (parameters_held o.peer) ≡ o
+outcome_whole o = λ i. record { reason = o.reason; oper = o.oper; error = o.error; mode = o.mode; peer = both o.peer i; adopts = o.adopts }
+  where
+    both : (p : Option Peer) → peer_with (flags_held p) (parameters_held p) ≡ p
+    both None = refl
+    both (Some p) = refl
+
+pub outcome_again : (o : Outcome) (p : Peer) → o.peer ≡ Some p → outcome_of (decided o) p.parameters ≡ o
+outcome_again o p e = ap (λ (q : Option Peer). outcome_of (decided o) (parameters_held q)) (sym e) ∙ outcome_whole o
 
 -- OperCfg
 module _ (s : Setting) (o : Outcome) where
-  pub configuration_adopted : o.adopts ≡ true → o.peer.parameters ≡ configuration s o
+  pub configuration_adopted : o.adopts ≡ true → parameters_held o.peer ≡ configuration s o
   configuration_adopted t = rw t refl
 
   pub configuration_own : o.adopts ≡ false → s.desired ≡ configuration s o
@@ -75,41 +79,44 @@ module _ (s : Setting) (o : Outcome) where
 abbrev pub flags_of : List ℕ → Flags
 flags_of v = record { enable = enable_of v; willing = willing_of v; error = error_of v }
 
--- a peer that is held
-abbrev pub peer_of : Flags → Parameters → Peer
-peer_of w p = record { held = true; enable = w.enable; willing = w.willing; error = w.error; parameters = p }
-
 -- ---- rules 6 to 9
 
--- what they decide, by the switches and parameters of the own end and the flags and parameters of the peer
-unfoldable pub judged_on : Feature → Switches → List ℕ → ℕ → Flags → List ℕ → Decision
-judged_on f s own oper p theirs =
-    decided (judged_by (s.enable && p.enable) (beq s.willing p.willing) (compatible f own theirs) s.willing oper (peer_of p no_parameters))
+-- what they decide, by the switches of the own end, the flags of the peer, and whether the two suit each other
+unfoldable pub judged_with : Switches → ℕ → Flags → Bool → Decision
+judged_with s oper p c = decided (judged_by (s.enable && p.enable) (beq s.willing p.willing) c s.willing oper (peer_of p no_parameters))
 
-module _ (f : Feature) (s : Switches) (own : List ℕ) (oper : ℕ) (w : Flags) (t : List ℕ) {d : Decision} where
-  pub judged_own_off : d ≡ decided (with_peer Disabled oper false false (peer_of w no_parameters) false) → not s.enable ≡ true → d ≡ judged_on f s own oper w t
-  unfolding judged_on judged_by
+-- every answer that is possible is this one
+abbrev pub Answers : (Bool → Type 0) → Bool → Type 0
+Answers possible c = (b : Bool) → possible b → b ≡ c
+
+-- and by the parameters of both
+unfoldable pub judged_on : Feature → Switches → List ℕ → ℕ → Flags → List ℕ → Decision
+judged_on f s own oper p theirs = judged_with s oper p (compatible f own theirs)
+
+module _ (s : Switches) (oper : ℕ) (w : Flags) (c : Bool) {d : Decision} where
+  pub judged_own_off : d ≡ decided (with_peer Disabled oper false false (peer_of w no_parameters) false) → not s.enable ≡ true → d ≡ judged_with s oper w c
+  unfolding judged_with judged_by
   judged_own_off e a = simp (e, not-true s.enable a)
 
   module _ (a : not s.enable ≡ false) where
-    pub judged_peer_off : d ≡ decided (with_peer Disabled oper false false (peer_of w no_parameters) false) → not w.enable ≡ true → d ≡ judged_on f s own oper w t
-    unfolding judged_on judged_by
+    pub judged_peer_off : d ≡ decided (with_peer Disabled oper false false (peer_of w no_parameters) false) → not w.enable ≡ true → d ≡ judged_with s oper w c
+    unfolding judged_with judged_by
     judged_peer_off e b = simp (e, not-false s.enable a, not-true w.enable b)
 
     module _ (b : not w.enable ≡ false) where
       pub judged_differ : d ≡ decided (with_peer Agreed oper false (not w.error) (peer_of w no_parameters) s.willing)
-          → not (beq s.willing w.willing) ≡ true → d ≡ judged_on f s own oper w t
-      unfolding judged_on judged_by
-      judged_differ e c = simp (e, not-false s.enable a, not-false w.enable b, c)
+          → not (beq s.willing w.willing) ≡ true → d ≡ judged_with s oper w c
+      unfolding judged_with judged_by
+      judged_differ e k = simp (e, not-false s.enable a, not-false w.enable b, k)
 
-      module _ (c : not (beq s.willing w.willing) ≡ false) {g : Bool} (y : g ≡ compatible f own t) where
-        pub judged_alike : d ≡ decided (with_peer Agreed oper false (not w.error) (peer_of w no_parameters) false) → g ≡ true → d ≡ judged_on f s own oper w t
-        unfolding judged_on judged_by
-        judged_alike e h = simp (e, not-false s.enable a, not-false w.enable b, c, sym y ∙ h)
+      module _ (k : not (beq s.willing w.willing) ≡ false) {g : Bool} (y : g ≡ c) where
+        pub judged_alike : d ≡ decided (with_peer Agreed oper false (not w.error) (peer_of w no_parameters) false) → g ≡ true → d ≡ judged_with s oper w c
+        unfolding judged_with judged_by
+        judged_alike e h = simp (e, not-false s.enable a, not-false w.enable b, k, sym y ∙ h)
 
-        pub judged_clash : d ≡ decided (with_peer NotCompatible oper true false (peer_of w no_parameters) false) → g ≡ false → d ≡ judged_on f s own oper w t
-        unfolding judged_on judged_by
-        judged_clash e h = simp (e, not-false s.enable a, not-false w.enable b, c, sym y ∙ h)
+        pub judged_clash : d ≡ decided (with_peer NotCompatible oper true false (peer_of w no_parameters) false) → g ≡ false → d ≡ judged_with s oper w c
+        unfolding judged_with judged_by
+        judged_clash e h = simp (e, not-false s.enable a, not-false w.enable b, k, sym y ∙ h)
 
 -- a decision does not show the peer's parameters
 judged_by_decided : (a b c willing : Bool) (oper : ℕ) (w : Flags) (p q : Parameters) →
@@ -127,24 +134,24 @@ switches_of s = record { advertise = s.advertise; enable = s.enable; willing = s
 pub judges : (f : Feature) (s : Setting) (oper : ℕ) (w : Flags) (t : List ℕ) (q : Parameters)
     → compatible f (content s.desired) (content q) ≡ compatible f (content s.desired) t
     → judged_on f (switches_of s) (content s.desired) oper w t ≡ decided (judged f s oper (peer_of w q))
-unfolding judged_on
+unfolding judged_on judged_with
 judges f s oper w t q k =
     ap (λ (c : Bool). decided (judged_by (s.enable && w.enable) (beq s.willing w.willing) c s.willing oper (peer_of w no_parameters))) (sym k)
     ∙ judged_by_decided (s.enable && w.enable) (beq s.willing w.willing) (compatible f (content s.desired) (content q)) s.willing oper w no_parameters q
     ∙ ap decided (sym (judged_by_lem f s oper (peer_of w q)))
 
 -- as the code lends the two ends' parameters
-pub judged_lent : (f : Feature) (s : Setting) (oper : ℕ) (w : Flags) (t : List ℕ) {x : Switches} {n : ℕ} {own : List ℕ} {d : Decision} → x ≡ switches_of s
-    → n ≡ s.desired.length → own ≡ take n s.desired.octets → d ≡ judged_on f x own oper w t
+pub judged_lent : (f : Feature) (s : Setting) (oper : ℕ) (w : Flags) (t : List ℕ) {x : Switches} {own : List ℕ} {d : Decision} → x ≡ switches_of s
+    → own ≡ content s.desired → d ≡ judged_with x oper w (compatible f own t)
     → d ≡ judged_on f (switches_of s) (content s.desired) oper w t
-judged_lent f s oper w t {x} {n} {own} ex en eo e =
-    let c : own ≡ content s.desired = content_of s.desired en eo in
-    e ∙ (λ i. judged_on f (ex i) (c i) oper w t)
+unfolding judged_on
+judged_lent f s oper w t ex eo e = e ∙ (λ i. judged_with (ex i) oper w (compatible f (eo i) t))
 
 pub judged_value : (f : Feature) (s : Setting) (oper : ℕ) (v : List ℕ) {x : Switches} {own : List ℕ} {w : Flags} {t : List ℕ} {d : Decision} → x ≡ switches_of s
-    → own ≡ content s.desired → w ≡ flags_of v → t ≡ parameters_of v → d ≡ judged_on f x own oper w t
+    → own ≡ content s.desired → w ≡ flags_of v → t ≡ parameters_of v → d ≡ judged_with x oper w (compatible f own t)
     → d ≡ judged_on f (switches_of s) (content s.desired) oper (flags_of v) (parameters_of v)
-judged_value f s oper v ex eo ew et e = e ∙ (λ i. judged_on f (ex i) (eo i) oper (ew i) (et i))
+unfolding judged_on
+judged_value f s oper v ex eo ew et e = e ∙ (λ i. judged_with (ex i) oper (ew i) (compatible f (eo i) (et i)))
 
 -- that they are valid, where they are lent
 module _ (f : Feature) {t u : List ℕ} (e : t ≡ u) where

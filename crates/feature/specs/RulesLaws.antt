@@ -1,5 +1,5 @@
 -- Outcome rules 6 to 9 over their three tests: both enabled, willing equal, compatible; and whether the own end is willing. Assumes nothing.
-use Rattle.std.specs.Prelude.{ℕ, ◌≡◌, refl, Bool, true, false, not, ◌&&◌, if◌then◌else◌}
+use Rattle.std.specs.Prelude.{Some, ℕ, ◌≡◌, refl, Bool, true, false, not, ◌&&◌, if◌then◌else◌}
 use Rattle.std.specs.Bool.{beq}
 use Rattle.parameters.specs.declared.Feature.{Feature}
 use Rattle.parameters.specs.Parameters.{compatible, content}
@@ -29,7 +29,7 @@ judged_by_oper true false c willing oper p = refl
 judged_by_oper true true true willing oper p = refl
 judged_by_oper true true false willing oper p = refl
 
-judged_by_peer : (a b c willing : Bool) (oper : ℕ) (p : Peer) → (judged_by a b c willing oper p).peer ≡ p
+judged_by_peer : (a b c willing : Bool) (oper : ℕ) (p : Peer) → (judged_by a b c willing oper p).peer ≡ Some p
 unfolding judged_by
 judged_by_peer false b c willing oper p = refl
 judged_by_peer true false c willing oper p = refl
@@ -39,5 +39,5 @@ judged_by_peer true true false willing oper p = refl
 pub judged_oper : (f : Feature) (s : Setting) (oper : ℕ) (p : Peer) → (judged f s oper p).oper ≡ oper
 judged_oper f s oper p = rw judged_by_lem (judged_by_oper _ _ _ s.willing oper p)
 
-pub judged_peer : (f : Feature) (s : Setting) (oper : ℕ) (p : Peer) → (judged f s oper p).peer ≡ p
+pub judged_peer : (f : Feature) (s : Setting) (oper : ℕ) (p : Peer) → (judged f s oper p).peer ≡ Some p
 judged_peer f s oper p = rw judged_by_lem (judged_by_peer _ _ _ s.willing oper p)

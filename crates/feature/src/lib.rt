@@ -1,16 +1,17 @@
 // One feature: its setting, its state by their parts, and the outcome rules that all three features share.
 #![tactic(auto)]
 
-ghost use Rattle.std.specs.Prelude.{◌≡◌, true};
+ghost use Rattle.std.specs.Prelude.{◌≡◌, Bool, true};
 ghost use Rattle.parameters.specs.Parameters.{content, no_parameters, valid};
 ghost use Rattle.feature.specs.Reasons.{reason_number};
-ghost use Rattle.feature.specs.Outcome.{configuration, lower, outcome, parameters_of, with_peer, without_peer};
-ghost use Rattle.feature.specs.OutcomeLaws.{decided, flags_of, outcome_of, peer_of, judged_on, switches_of};
+ghost use Rattle.feature.specs.Outcome.{configuration, outcome, parameters_held, parameters_of, with_peer, without_peer};
+ghost use Rattle.feature.specs.OutcomeLaws.{Answers, decided, flags_of, judged_on, judged_with, outcome_of, peer_flags, peer_of, peer_with, switches_of};
 
 use parameters::{Feature, Parameters};
+use std::fmt;
 
 // Why a feature is in its state.
-#[derive(Clone, Copy)]
+#[derive(Clone, Copy, Debug, PartialEq, Eq)]
 pub enum Reason {
     NoPeerYet,
     NotAdvertised,
@@ -24,8 +25,46 @@ pub enum Reason {
     ControlTwice,
 }
 
+// A number for each reason; the numbers are ours.
+impl From<Reason> for u8 {
+    ghost from_gives = { λ r n. n ≡ reason_number r };
+
+    fn from(r: Reason) -> u8 {
+        match r {
+            Reason::NoPeerYet => 0,
+            Reason::NotAdvertised => 1,
+            Reason::Absent => 2,
+            Reason::Duplicate => 3,
+            Reason::Bad => 4,
+            Reason::Waiting => 5,
+            Reason::Disabled => 6,
+            Reason::Agreed => 7,
+            Reason::NotCompatible => 8,
+            Reason::ControlTwice => 9,
+        }
+    }
+}
+
+// The name of a reason in every answer that is printed (docs/FORMATS.md).
+impl fmt::Display for Reason {
+    fn fmt<W: fmt::Write>(&self, f: &mut fmt::Formatter<W>) -> fmt::Result {
+        f.write_str(match self {
+            Reason::NoPeerYet => "no-peer-yet",
+            Reason::NotAdvertised => "not-advertised",
+            Reason::Absent => "absent",
+            Reason::Duplicate => "duplicate",
+            Reason::Bad => "bad",
+            Reason::Waiting => "waiting",
+            Reason::Disabled => "disabled",
+            Reason::Agreed => "agreed",
+            Reason::NotCompatible => "not-compatible",
+            Reason::ControlTwice => "control-twice",
+        })
+    }
+}
+
 // A setting's three switches, without its parameters.
-#[derive(Clone, Copy)]
+#[derive(Clone, Copy, Debug, PartialEq, Eq)]
 pub struct Switches {
     pub advertise: bool,
     pub enable: bool,
@@ -33,7 +72,7 @@ pub struct Switches {
 }
 
 // What an end is set to for one feature. `desired` is DesiredCfg.
-#[derive(Clone, Copy)]
+#[derive(Clone, Copy, Debug, PartialEq, Eq)]
 pub struct Setting {
     pub advertise: bool,
     pub enable: bool,
@@ -41,10 +80,9 @@ pub struct Setting {
     pub desired: Parameters,
 }
 
-// What is held of the peer: where `held` is false the rest is false and zero.
-#[derive(Clone, Copy)]
+// What is held of the peer.
+#[derive(Clone, Copy, Debug, PartialEq, Eq)]
 pub struct Peer {
-    pub held: bool,
     pub enable: bool,
     pub willing: bool,
     pub error: bool,
@@ -52,32 +90,29 @@ pub struct Peer {
 }
 
 // What the outcome rules decide. OperCfg is the peer's configuration where the end `adopts` it, and else its own.
-#[derive(Clone, Copy)]
+#[derive(Clone, Copy, Debug, PartialEq, Eq)]
 pub struct Outcome {
     pub reason: Reason,
     pub oper: u8,
     pub error: bool,
     pub mode: bool,
-    pub peer: Peer,
+    pub peer: Option<Peer>,
     pub adopts: bool,
 }
 
-// An outcome but for the peer's parameters, which are long. `fault` is the peer's error flag.
-#[derive(Clone, Copy)]
+// An outcome but for the peer's parameters, which are long.
+#[derive(Clone, Copy, Debug, PartialEq, Eq)]
 pub struct Decision {
     pub reason: Reason,
     pub oper: u8,
     pub error: bool,
     pub mode: bool,
-    pub held: bool,
-    pub enable: bool,
-    pub willing: bool,
-    pub fault: bool,
+    pub peer: Option<Flags>,
     pub adopts: bool,
 }
 
 // The flags of a sub-TLV.
-#[derive(Clone, Copy)]
+#[derive(Clone, Copy, Debug, PartialEq, Eq)]
 pub struct Flags {
     pub enable: bool,
     pub willing: bool,
@@ -85,7 +120,7 @@ pub struct Flags {
 }
 
 // A feature's state. `sequence` is FeatureSeqNo.
-#[derive(Clone, Copy)]
+#[derive(Clone, Copy, Debug, PartialEq, Eq)]
 pub struct State {
     pub max: u8,
     pub setting: Setting,
@@ -95,28 +130,60 @@ pub struct State {
 }
 
 // What a sub-TLV is written from, beside the feature's Max, which is fixed: none is written where the setting does not advertise.
-#[derive(Clone, Copy)]
+#[derive(Clone, Copy, Debug, PartialEq, Eq)]
 pub struct Release {
     pub setting: Setting,
     pub oper: u8,
     pub error: bool,
 }
 
-// A number for each reason; the numbers are ours.
-pub fn reason_number(r: Reason) -> u8
-    ensures { result ≡ reason_number r }
+impl From<Setting> for Switches {
+    ghost from_gives = { λ s w. w ≡ switches_of s };
+
+    fn from(s: Setting) -> Switches {
+        Switches {
+            advertise: s.advertise,
+            enable: s.enable,
+            willing: s.willing,
+        }
+    }
+}
+
+impl From<Peer> for Flags {
+    ghost from_gives = { λ p w. w ≡ peer_flags p };
+
+    fn from(p: Peer) -> Flags {
+        Flags {
+            enable: p.enable,
+            willing: p.willing,
+            error: p.error,
+        }
+    }
+}
+
+// An outcome but for the peer's parameters.
+impl From<Outcome> for Decision {
+    ghost from_gives = { λ o d. d ≡ decided o };
+
+    fn from(o: Outcome) -> Decision {
+        Decision {
+            reason: o.reason,
+            oper: o.oper,
+            error: o.error,
+            mode: o.mode,
+            peer: o.peer.map(|p| Flags::from(p)),
+            adopts: o.adopts,
+        }
+    }
+}
+
+// The parameters held of a peer.
+pub fn parameters_held(peer: Option<Peer>) -> Parameters
+    ensures { result ≡ parameters_held peer }
 {
-    match r {
-        Reason::NoPeerYet => 0,
-        Reason::NotAdvertised => 1,
-        Reason::Absent => 2,
-        Reason::Duplicate => 3,
-        Reason::Bad => 4,
-        Reason::Waiting => 5,
-        Reason::Disabled => 6,
-        Reason::Agreed => 7,
-        Reason::NotCompatible => 8,
-        Reason::ControlTwice => 9,
+    match peer {
+        Some(p) => p.parameters,
+        None => no_parameters(),
     }
 }
 
@@ -126,18 +193,10 @@ pub fn configuration(x: State) -> Parameters
 {
     let s = x.setting;
     let o = x.outcome;
-    let p = o.peer;
     if o.adopts {
-        return p.parameters;
+        return parameters_held(o.peer);
     }
     s.desired
-}
-
-// The lower of two versions.
-pub fn lower(a: u8, b: u8) -> u8
-    ensures { result ≡ lower a b }
-{
-    if a <= b { a } else { b }
 }
 
 // No parameters, as they are held where there is no peer.
@@ -154,61 +213,54 @@ pub fn no_parameters() -> Parameters
 pub fn outcome_of(d: Decision, p: Parameters) -> Outcome
     ensures { result ≡ outcome_of d p }
 {
-    let why = d.reason;
     Outcome {
-        reason: why,
+        reason: d.reason,
         oper: d.oper,
         error: d.error,
         mode: d.mode,
-        peer: Peer {
-            held: d.held,
-            enable: d.enable,
-            willing: d.willing,
-            error: d.fault,
+        peer: d.peer.map(|flags| Peer {
+            enable: flags.enable,
+            willing: flags.willing,
+            error: flags.error,
             parameters: p,
-        },
+        }),
         adopts: d.adopts,
     }
 }
 
 // Rules 1 to 5: no peer, mode false, own configuration.
-pub fn without_peer(why: Reason, oper: u8, error: bool) -> Decision
-    ensures { result ≡ decided (without_peer why oper error) }
+pub fn without_peer(reason: Reason, oper: u8, error: bool) -> Decision
+    ensures { result ≡ decided (without_peer reason oper error) }
 {
     Decision {
-        reason: why,
-        oper: oper,
-        error: error,
+        reason,
+        oper,
+        error,
         mode: false,
-        held: false,
-        enable: false,
-        willing: false,
-        fault: false,
+        peer: None,
         adopts: false,
     }
 }
 
 // Rules 6 to 9: the peer is held.
-fn with_peer(why: Reason, oper: u8, error: bool, mode: bool, p: Flags, adopts: bool) -> Decision
-    ensures { result ≡ decided (with_peer why oper error mode (peer_of p no_parameters) adopts) }
+fn with_peer(reason: Reason, oper: u8, error: bool, mode: bool, p: Flags, adopts: bool) -> Decision
+    ensures { result ≡ decided (with_peer reason oper error mode (peer_of p no_parameters) adopts) }
 {
     Decision {
-        reason: why,
-        oper: oper,
-        error: error,
-        mode: mode,
-        held: true,
-        enable: p.enable,
-        willing: p.willing,
-        fault: p.error,
-        adopts: adopts,
+        reason,
+        oper,
+        error,
+        mode,
+        peer: Some(p),
+        adopts,
     }
 }
 
-// Rules 6 to 9, at a version and with a peer that a frame brought, whose parameters are valid; hence the `requires`.
-fn judge(f: Feature, s: Switches, own: &[u8], oper: u8, p: Flags, theirs: &[u8]) -> Decision
-    requires { valid f theirs.now ≡ true }
-    ensures { result ≡ judged_on f s own.now oper p theirs.now }
+// Rules 6 to 9, at a version and with a peer. `suits` says whether the two ends' parameters are compatible, and is asked only
+// where that decides. For each caller the compiler makes a copy of its own, which is inlined there.
+pub fn judge<F: FnOnce() -> bool>(s: Switches, oper: u8, p: Flags, suits: F) -> Decision
+    requires { F.pre suits }
+    ensures { (c : Bool) → Answers (F.post suits) c → result ≡ judged_with s oper p c }
 {
     if !s.enable {
         return with_peer(Reason::Disabled, oper, false, false, p, false);
@@ -219,47 +271,10 @@ fn judge(f: Feature, s: Switches, own: &[u8], oper: u8, p: Flags, theirs: &[u8])
     if s.willing != p.willing {
         return with_peer(Reason::Agreed, oper, false, !p.error, p, s.willing);
     }
-    if config::suits(f, own, theirs) {
+    if suits() {
         return with_peer(Reason::Agreed, oper, false, !p.error, p, false);
     }
     with_peer(Reason::NotCompatible, oper, true, false, p, false)
-}
-
-// `judge` once more, for a peer that was held before: so `judge` has one caller, on a frame's way, and is inlined there.
-pub fn judge_anew(
-    f: Feature,
-    w: Switches,
-    own: &[u8],
-    oper: u8,
-    p: Flags,
-    theirs: &[u8],
-) -> Decision
-    ensures { result ≡ judged_on f w own.now oper p theirs.now }
-{
-    if !w.enable {
-        return with_peer(Reason::Disabled, oper, false, false, p, false);
-    }
-    if !p.enable {
-        return with_peer(Reason::Disabled, oper, false, false, p, false);
-    }
-    if w.willing != p.willing {
-        return with_peer(Reason::Agreed, oper, false, !p.error, p, w.willing);
-    }
-    if config::compatible(f, own, theirs) {
-        return with_peer(Reason::Agreed, oper, false, !p.error, p, false);
-    }
-    with_peer(Reason::NotCompatible, oper, true, false, p, false)
-}
-
-// The switches of a setting.
-pub fn switches_of(s: Setting) -> Switches
-    ensures { result ≡ switches_of s }
-{
-    Switches {
-        advertise: s.advertise,
-        enable: s.enable,
-        willing: s.willing,
-    }
 }
 
 // The flags of a sub-TLV, of its value.
@@ -279,14 +294,10 @@ fn judge_value(f: Feature, s: Setting, desired: &[u8], oper: u8, value: &[u8]) -
     requires { (desired.now ≡ content s.desired) × (valid f (parameters_of value.now) ≡ true) }
     ensures { result ≡ judged_on f (switches_of s) (content s.desired) oper (flags_of value.now) (parameters_of value.now) }
 {
-    judge(
-        f,
-        switches_of(s),
-        desired,
-        oper,
-        flags_in(value),
-        octets::from(value, 4),
-    )
+    let theirs = octets::from(value, 4);
+    judge(Switches::from(s), oper, flags_in(value), || {
+        config::suits(f, desired, theirs)
+    })
 }
 
 // The outcome rules, first that applies: `count` sub-TLVs of the feature came, and `value` is that of the last. `desired` are the
@@ -317,7 +328,7 @@ pub fn decide(
     if highest < theirs {
         return without_peer(Reason::Bad, oper, true);
     }
-    let low = lower(max, highest);
+    let low = max.min(highest);
     if theirs != low {
         return without_peer(Reason::Waiting, low, false);
     }

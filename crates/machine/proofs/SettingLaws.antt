@@ -1,9 +1,10 @@
 -- A feature under another setting, a law for each way out: apart from the other laws, since an edit of `judged_again` or `reset` is to be refused here. Assumes nothing.
-use Rattle.std.specs.Prelude.{◌≡◌, ℕ, true, false, not}
+use Rattle.std.specs.Prelude.{None, Some, ◌≡◌, ℕ, true, false, not}
 use Rattle.std.specs.Bool.{beq}
 use borrow.Author.Tests.{not-true, not-false}
 use Rattle.parameters.specs.declared.Feature.{Feature}
 use Rattle.feature.specs.declared.Setting.{Setting}
+use Rattle.feature.specs.declared.Peer.{Peer}
 use Rattle.feature.specs.declared.Outcome.{Outcome}
 use Rattle.feature.specs.declared.State.{State}
 use Rattle.feature.specs.Outcome.{judged}
@@ -16,11 +17,11 @@ module _ (f : Feature) (s : Setting) (o : Outcome) where
   judged_again_withheld t = simp t
 
   module _ (t : not s.advertise ≡ false) where
-    pub judged_again_held : {r : Outcome} → o.peer.held ≡ true → r ≡ judged f s o.oper o.peer → r ≡ judged_again f s o
+    pub judged_again_held : {p : Peer} {r : Outcome} → o.peer ≡ Some p → r ≡ judged f s o.oper p → r ≡ judged_again f s o
     unfolding judged_again
     judged_again_held h e = simp (e, t, h)
 
-    pub judged_again_alone : o.peer.held ≡ false
+    pub judged_again_alone : o.peer ≡ None
         → record { reason = o.reason; oper = o.oper; error = o.error; mode = o.mode; peer = o.peer; adopts = false } ≡ judged_again f s o
     unfolding judged_again
     judged_again_alone h = simp (t, h)

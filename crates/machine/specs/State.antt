@@ -1,11 +1,12 @@
 -- 01, Port events and Handling a frame: one feature's state, what it writes, and its settings.
-use Rattle.std.specs.Prelude.{ℕ, ◌+◌, ◌%◌, ◌^◌, Bool, true, false, not, ◌&&◌, List, [], ◌∷◌, if◌then◌else◌}
+use Rattle.std.specs.Prelude.{Option, None, Some, ℕ, ◌+◌, ◌%◌, ◌^◌, Bool, true, false, not, ◌&&◌, List, [], ◌∷◌, if◌then◌else◌}
 use Rattle.std.specs.Bool.{beq}
 use Rattle.octets.specs.Octets.{headed, same}
 use Rattle.parameters.specs.declared.Feature.{Feature}
 use Rattle.feature.specs.declared.Reason.TheVariants.{NoPeerYet, NotAdvertised}
 use Rattle.feature.specs.declared.Switches.{Switches}
 use Rattle.feature.specs.declared.Setting.{Setting}
+use Rattle.feature.specs.declared.Peer.{Peer}
 use Rattle.feature.specs.declared.Outcome.{Outcome}
 use Rattle.feature.specs.declared.State.{State}
 use Rattle.feature.specs.declared.Release.{Release}
@@ -96,12 +97,15 @@ same_setting s t =
 
 -- "if Advertise stays true, a held peer goes through outcome rules 6 to 9 again, and without one the reason, Error and mode stay
 -- and OperCfg = DesiredCfg. If Advertise stays false, OperCfg = DesiredCfg and mode = enable, nothing else."
+abbrev pub again_with : Feature → Setting → Outcome → Option Peer → Outcome
+again_with f s o (Some p) = judged f s o.oper p
+again_with f s o None = record { reason = o.reason; oper = o.oper; error = o.error; mode = o.mode; peer = o.peer; adopts = false }
+
 unfoldable pub judged_again : Feature → Setting → Outcome → Outcome
 judged_again f s o =
     if not s.advertise then
     record { reason = o.reason; oper = o.oper; error = o.error; mode = s.enable; peer = o.peer; adopts = false }
-    else if o.peer.held then judged f s o.oper o.peer
-    else record { reason = o.reason; oper = o.oper; error = o.error; mode = o.mode; peer = o.peer; adopts = false }
+    else again_with f s o o.peer
 
 -- "If Advertise goes false or true, the feature becomes as in the fresh state, except that FeatureSeqNo = SeqNo + 1." Step 5 then takes Syncd away, also
 -- of one that is withdrawn (02, E5).

@@ -181,7 +181,10 @@ fn first_line(page: &mut Output, rounds: u64, told: &[(Feature, Told); 3]) {
 // The first line on two ends.
 fn compare(page: &mut Output, rounds: u64, a: Port, b: Port) {
     let told = [
-        (Feature::Groups, outcome(Feature::Groups, a.groups, b.groups)),
+        (
+            Feature::Groups,
+            outcome(Feature::Groups, a.groups, b.groups),
+        ),
         (Feature::Flow, outcome(Feature::Flow, a.flow, b.flow)),
         (Feature::Applications, on_applications(a, b)),
     ];
@@ -244,7 +247,10 @@ docs/FORMATS.md describes the settings and the report.
         _alone: bool,
     ) -> Result<(), Wrong> {
         let s = settings::read_pair(input, false)?;
-        report_on(page, settle(settings::port_with(s.a), settings::port_with(s.b)));
+        report_on(
+            page,
+            settle(settings::port_with(s.a), settings::port_with(s.b)),
+        );
         let _ = streams.write(page.as_slice());
         Ok(())
     }

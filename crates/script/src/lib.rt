@@ -6,8 +6,8 @@ ghost use Rattle.words.specs.Text.{words, first};
 ghost use Rattle.script.specs.Events.{numbered, keyword, flag_word, flag, write, form_of, change_of, event_of, is_frame, event_line};
 
 use grammar::{Field, Form, Name};
-use lines::{Due, Flag, Kind, Line, Unread};
-use words::Number;
+use lines::{Due, Kind, Line, Parsed, Unread};
+use port::Flag;
 
 // The first word of an event that is no frame.
 #[derive(Clone, Copy)]
@@ -22,95 +22,91 @@ pub enum Keyword {
     Other,
 }
 
+#[tactic(auto, unfolding(crate::specs::Events::keyword))]
 fn keyword_of(w: &[u8]) -> Keyword
     ensures { result ≡ keyword w.now }
 {
     if octets::same_octets(w, b"gone") {
-        return Keyword::Gone;
+        Keyword::Gone
+    } else if octets::same_octets(w, b"take") {
+        Keyword::Take
+    } else if octets::same_octets(w, b"show") {
+        Keyword::Show
+    } else if octets::same_octets(w, b"set") {
+        Keyword::Set
+    } else if octets::same_octets(w, b"write") {
+        Keyword::Write
+    } else {
+        flag_of(w)
     }
-    if octets::same_octets(w, b"take") {
-        return Keyword::Take;
-    }
-    if octets::same_octets(w, b"show") {
-        return Keyword::Show;
-    }
-    if octets::same_octets(w, b"set") {
-        return Keyword::Set;
-    }
-    if octets::same_octets(w, b"write") {
-        return Keyword::Write;
-    }
-    flag_of(w)
 }
 
+#[tactic(auto, unfolding(crate::specs::Events::flag_word))]
 fn flag_of(w: &[u8]) -> Keyword
     ensures { result ≡ flag_word w.now }
 {
     if octets::same_octets(w, b"admin") {
-        return Keyword::Flag(Flag::Admin);
+        Keyword::Flag(Flag::Admin)
+    } else if octets::same_octets(w, b"receive") {
+        Keyword::Flag(Flag::Receive)
+    } else if octets::same_octets(w, b"transmit") {
+        Keyword::Flag(Flag::Transmit)
+    } else if octets::same_octets(w, b"several") {
+        Keyword::Flag(Flag::Several)
+    } else if octets::same_octets(w, b"B") {
+        Keyword::Frame
+    } else {
+        Keyword::Other
     }
-    if octets::same_octets(w, b"receive") {
-        return Keyword::Flag(Flag::Receive);
-    }
-    if octets::same_octets(w, b"transmit") {
-        return Keyword::Flag(Flag::Transmit);
-    }
-    if octets::same_octets(w, b"several") {
-        return Keyword::Flag(Flag::Several);
-    }
-    if octets::same_octets(w, b"B") {
-        return Keyword::Frame;
-    }
-    Keyword::Other
 }
 
 // A flag and its bit, which is the second word.
-fn flag_line(x: Flag, s: &[u8]) -> Line
+#[tactic(auto, using(words::specs::WordsLaws::first_word_lem, words::specs::WordsLaws::other_words), unfolding(crate::specs::Events::flag, crate::specs::Events::flag_bit))]
+fn flag_line(x: Flag, s: &[u8]) -> Parsed
     ensures { result ≡ flag x (words s.now) }
 {
-    match fields::read_field(Field::Bit, words::word(s)) {
-        Number::Not => lines::not_due(2, Due::Field(Field::Bit)),
-        Number::Is(on) => lines::alone(Kind::Flag(x, on == 1), 3, words::behind(s)),
-    }
+    let due = Due::Field(Field::Bit);
+    let on = fields::read_field(Field::Bit, words::word(s)).ok_or(Unread::Word(2, due))?;
+    lines::alone(Kind::Flag(x, on == 1), 3, words::behind(s))
 }
 
 // `write ROOM`
-fn write_line(s: &[u8]) -> Line
+#[tactic(auto, using(words::specs::WordsLaws::first_word_lem, words::specs::WordsLaws::other_words), unfolding(crate::specs::Events::write, crate::specs::Events::write_room))]
+fn write_line(s: &[u8]) -> Parsed
     ensures { result ≡ write (words s.now) }
 {
-    match words::read_number(words::word(s), 1000) {
-        Number::Not => lines::not_due(2, Due::Field(Field::Decimal(1000))),
-        Number::Is(room) => lines::alone(Kind::Write(room), 3, words::behind(s)),
-    }
+    let due = Due::Field(Field::Decimal(1000));
+    let room = words::read_number(words::word(s), 1000).ok_or(Unread::Word(2, due))?;
+    lines::alone(Kind::Write(room), 3, words::behind(s))
 }
 
 // The feature that `set` names; any other word is its number.
+#[tactic(auto, unfolding(crate::specs::Events::form_of))]
 fn form_of(w: &[u8]) -> Form
     ensures { result ≡ form_of w.now }
 {
     if fields::is_name(Name::Groups, w) {
-        return Form::Groups;
+        Form::Groups
+    } else if fields::is_name(Name::Flow, w) {
+        Form::Flow
+    } else if fields::is_name(Name::Applications, w) {
+        Form::Applications
+    } else {
+        Form::Plain
     }
-    if fields::is_name(Name::Flow, w) {
-        return Form::Flow;
-    }
-    if fields::is_name(Name::Applications, w) {
-        return Form::Applications;
-    }
-    Form::Plain
 }
 
 // `set NUMBER` and the words behind it.
-fn numbered(number: Number, s: &[u8]) -> Line
+#[tactic(auto, unfolding(crate::specs::Events::numbered))]
+fn numbered(number: Option<usize>, s: &[u8]) -> Parsed
     ensures { result ≡ numbered number (words s.now) }
 {
-    match number {
-        Number::Not => lines::not_due(2, Due::Feature),
-        Number::Is(n) => lines::plain(words::low(n), s),
-    }
+    let n = number.ok_or(Unread::Word(2, Due::Feature))?;
+    lines::plain(words::low(n), s)
 }
 
-fn change(s: &[u8]) -> Line
+#[tactic(auto, using(words::specs::WordsLaws::first_word_lem, words::specs::WordsLaws::other_words), unfolding(crate::specs::Events::change_of))]
+fn change(s: &[u8]) -> Parsed
     ensures { result ≡ change_of (form_of (first (words s.now))) (words s.now) }
 {
     let w = words::word(s);
@@ -124,7 +120,8 @@ fn change(s: &[u8]) -> Line
 }
 
 // An event that is no frame, by its first word.
-fn event_of(k: Keyword, s: &[u8]) -> Line
+#[tactic(auto, unfolding(crate::specs::Events::event_of))]
+fn event_of(k: Keyword, s: &[u8]) -> Parsed
     ensures { result ≡ event_of k (words s.now) }
 {
     match k {
@@ -134,39 +131,35 @@ fn event_of(k: Keyword, s: &[u8]) -> Line
         Keyword::Set => change(s),
         Keyword::Write => write_line(s),
         Keyword::Flag(x) => flag_line(x, s),
-        Keyword::Frame => lines::not_due(2, Due::Frame),
-        Keyword::Other => lines::not_due(1, Due::Event),
+        Keyword::Frame => Err(Unread::Word(2, Due::Frame)),
+        Keyword::Other => Err(Unread::Word(1, Due::Event)),
     }
 }
 
 // Whether a line is a capture's, of an arriving frame.
+#[tactic(auto, unfolding(crate::specs::Events::is_frame))]
 pub fn is_frame(s: &[u8]) -> bool
     ensures { result ≡ is_frame s.now }
 {
-    if !octets::same_octets(octets::first(s, 2), b"B ") {
-        return false;
-    }
-    words::is_octets(octets::from(s, 2), 513)
+    octets::same_octets(octets::first(s, 2), b"B ") && words::is_octets(octets::from(s, 2), 513)
 }
 
 // An event of `desk` (docs/FORMATS.md, Events).
-pub fn parse_event(line: &[u8]) -> Line
+#[tactic(auto, using(words::specs::WordsLaws::first_word_lem, words::specs::WordsLaws::other_words), unfolding(crate::specs::Events::event_line, lines::specs::Lines::line_of))]
+pub fn parse_event(line: &[u8]) -> Parsed
     ensures { result ≡ event_line line.now }
 {
     if words::LONGEST < line.len() {
-        return lines::bare(Kind::Unreadable(Unread::Long));
+        return Err(Unread::Long);
     }
     if lines::is_returned(line) {
-        return lines::bare(Kind::Unreadable(Unread::Return));
+        return Err(Unread::Return);
     }
     if is_frame(line) {
-        let n = words::frame_length(line);
-        let octets = words::frame_octets(line);
-        return Line {
+        return Ok(Line {
             kind: Kind::Frame,
-            n: n,
-            octets: octets,
-        };
+            octets: words::frame_of(line),
+        });
     }
     event_of(keyword_of(words::word(line)), words::behind(line))
 }

@@ -109,11 +109,6 @@ impl Setting {
     }
 }
 
-// Whether it is the line as a whole that cannot be read.
-fn is_unread_whole(said: Result<Line, Unread>) -> bool {
-    matches!(said, Err(Unread::Long | Unread::Return))
-}
-
 // A line behind the control has to name its port, `of`.
 fn check_port(of: Option<u8>, port: Option<u8>, line: u64) -> Result<(), Wrong> {
     match of {
@@ -135,7 +130,7 @@ fn read_line(input: &mut Input, due: Part, ports: bool, of: Option<u8>) -> Resul
         None
     };
     let said = setup::parse_setting(due, addressing::behind_port(line, port));
-    if !is_unread_whole(said) {
+    if !matches!(said, Err(Unread::Long | Unread::Return)) {
         check_port(of, port, number)?;
     }
     let line = said.map_err(|why| Wrong::Unread {
@@ -212,7 +207,9 @@ fn read_new_port(input: &mut Input, seen: &[bool; 256]) -> Result<Settings, Wron
 pub fn first_invalid(s: Settings) -> Option<Invalid> {
     let of_groups = s.groups.invalid(Feature::Groups);
     let of_flow = s.flow.invalid(Feature::Flow);
-    let of_applications = s.applications.and_then(|a| a.invalid(Feature::Applications));
+    let of_applications = s
+        .applications
+        .and_then(|a| a.invalid(Feature::Applications));
     of_groups.or(of_flow).or(of_applications)
 }
 
@@ -322,11 +319,7 @@ pub fn port_with(s: Settings) -> Port {
 
 // Reads the settings of ports, creates them and puts the answers, none of which has a notice; behind the settings the events begin.
 // All lines are read, and what is wrong with one counts before a port that is refused. A port comes once, so 257 turns are enough.
-pub fn read_recorder(
-    input: &mut Input,
-    page: &mut Output,
-    alone: bool,
-) -> Result<Recorder, Wrong> {
+pub fn read_recorder(input: &mut Input, page: &mut Output, alone: bool) -> Result<Recorder, Wrong> {
     let mut made = recorder::blank();
     let mut seen = [false; 256];
     let mut refused = None;

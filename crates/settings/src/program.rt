@@ -7,6 +7,7 @@ use printing::Output;
 
 pub trait Program {
     const NAME: &'static str;
+
     const USAGE: &'static str;
 
     // Reads the settings, and if nothing is wrong with them does the work. `alone` says that they stand alone in a file.
@@ -46,7 +47,7 @@ pub fn run<P: Program>(rt: &HostRuntime) {
     match console::arguments::asked(rt, &mut name) {
         Source::Input => serve::<P>(streams, Reader::of_standard(rt.stdin()), false),
         Source::File(file) => serve::<P>(streams, Reader::of_file(file, rt.stdin()), true),
-        Source::Unopened(n) => refuse_unopened::<P>(streams, octets::first(&name, n)),
+        Source::Unopened(file) => refuse_unopened::<P>(streams, file),
         Source::Help => streams.usage(P::USAGE, true),
         Source::Unknown => streams.usage(P::USAGE, false),
     }

@@ -3,15 +3,14 @@
 
 ghost use Rattle.std.specs.Prelude.{◌≡◌};
 ghost use Rattle.words.specs.Text.{words};
-ghost use Rattle.setup.specs.Setup.{settings_word, begins_settings, part_name, named_revision, control_of, setting_of, behind_max, behind_name, setting_line};
+ghost use Rattle.setup.specs.Setup.{settings_word, begins_settings, part_name, named, named_revision, control_of, setting_of, behind_max, behind_name, setting_line};
 
 use grammar::{Field, Form, Name};
-use lines::{Due, Kind, Line, Unread};
+use lines::{Due, Kind, Parsed, Unread};
 use tlv::Revision;
-use words::Number;
 
 // The lines of an end's settings, the last of them for Rev 1.01 alone.
-#[derive(Clone, Copy)]
+#[derive(Clone, Copy, Debug, PartialEq, Eq)]
 pub enum Part {
     Control,
     Groups,
@@ -20,6 +19,7 @@ pub enum Part {
 }
 
 // The first word of a line of the settings.
+#[tactic(auto, unfolding(crate::specs::Setup::part_name))]
 pub fn part_name(p: Part) -> Name
     ensures { result ≡ part_name p }
 {
@@ -32,35 +32,47 @@ pub fn part_name(p: Part) -> Name
 }
 
 // The words behind `control max N revision`.
-fn named_revision(max: u8, s: &[u8]) -> Line
+#[tactic(auto, using(words::specs::WordsLaws::first_word_lem, words::specs::WordsLaws::other_words), unfolding(crate::specs::Setup::named_revision))]
+fn named_revision(max: u8, s: &[u8]) -> Parsed
     ensures { result ≡ named_revision max (words s.now) }
 {
     let w = words::word(s);
     let more = words::behind(s);
     if octets::same_octets(w, b"1.0") {
-        return lines::alone(Kind::Control(max, Revision::Rev10), 6, more);
+        lines::alone(Kind::Control(max, Revision::Rev10), 6, more)
+    } else if octets::same_octets(w, b"1.01") {
+        lines::alone(Kind::Control(max, Revision::Rev101), 6, more)
+    } else {
+        Err(Unread::Word(5, Due::Revision))
     }
-    if octets::same_octets(w, b"1.01") {
-        return lines::alone(Kind::Control(max, Revision::Rev101), 6, more);
-    }
-    lines::not_due(5, Due::Revision)
 }
 
 // The words behind `control max N`. Where no revision is named it is 1.01.
-fn control_of(max: u8, s: &[u8]) -> Line
+#[tactic(auto, using(words::specs::WordsLaws::first_word_lem, words::specs::WordsLaws::other_words), unfolding(crate::specs::Setup::control_of))]
+fn control_of(max: u8, s: &[u8]) -> Parsed
     ensures { result ≡ control_of max (words s.now) }
 {
     if fields::is_over(s) {
-        return lines::bare(Kind::Control(max, Revision::Rev101));
+        return Ok(lines::bare(Kind::Control(max, Revision::Rev101)));
     }
-    if fields::is_name(Name::Revision, words::word(s)) {
-        return named_revision(max, words::behind(s));
+    named(Name::Revision, 4, words::word(s))?;
+    named_revision(max, words::behind(s))
+}
+
+// A word with a number that is to be a name.
+fn named(n: Name, place: usize, w: &[u8]) -> Result<(), Unread>
+    ensures { result ≡ named n place w.now }
+{
+    if fields::is_name(n, w) {
+        Ok(())
+    } else {
+        Err(Unread::Word(place, Due::Field(Field::Word(n))))
     }
-    lines::not_due(4, Due::Field(Field::Word(Name::Revision)))
 }
 
 // The words behind `NAME max N`.
-fn setting_of(p: Part, max: u8, s: &[u8]) -> Line
+#[tactic(auto, unfolding(crate::specs::Setup::setting_of))]
+fn setting_of(p: Part, max: u8, s: &[u8]) -> Parsed
     ensures { result ≡ setting_of p max (words s.now) }
 {
     match p {
@@ -71,58 +83,53 @@ fn setting_of(p: Part, max: u8, s: &[u8]) -> Line
     }
 }
 
-fn behind_max(p: Part, s: &[u8]) -> Line
+#[tactic(auto, using(words::specs::WordsLaws::first_word_lem, words::specs::WordsLaws::other_words), unfolding(crate::specs::Setup::behind_max, crate::specs::Setup::setting_max))]
+fn behind_max(p: Part, s: &[u8]) -> Parsed
     ensures { result ≡ behind_max p (words s.now) }
 {
-    match words::read_number(words::word(s), 255) {
-        Number::Not => lines::not_due(3, Due::Field(Field::Decimal(255))),
-        Number::Is(max) => setting_of(p, words::low(max), words::behind(s)),
-    }
+    let due = Due::Field(Field::Decimal(255));
+    let max = words::read_number(words::word(s), 255).ok_or(Unread::Word(3, due))?;
+    setting_of(p, words::low(max), words::behind(s))
 }
 
-fn behind_name(p: Part, s: &[u8]) -> Line
+#[tactic(auto, using(words::specs::WordsLaws::first_word_lem, words::specs::WordsLaws::other_words), unfolding(crate::specs::Setup::behind_name))]
+fn behind_name(p: Part, s: &[u8]) -> Parsed
     ensures { result ≡ behind_name p (words s.now) }
 {
-    if fields::is_name(Name::Max, words::word(s)) {
-        return behind_max(p, words::behind(s));
-    }
-    lines::not_due(2, Due::Field(Field::Word(Name::Max)))
+    named(Name::Max, 2, words::word(s))?;
+    behind_max(p, words::behind(s))
 }
 
 // The line of the settings that is due (docs/FORMATS.md, Settings of one port).
-pub fn parse_setting(due: Part, line: &[u8]) -> Line
+#[tactic(auto, using(words::specs::WordsLaws::first_word_lem, words::specs::WordsLaws::other_words), unfolding(crate::specs::Setup::setting_line))]
+pub fn parse_setting(due: Part, line: &[u8]) -> Parsed
     ensures { result ≡ setting_line due line.now }
 {
     if words::LONGEST < line.len() {
-        return lines::bare(Kind::Unreadable(Unread::Long));
+        return Err(Unread::Long);
     }
     if lines::is_returned(line) {
-        return lines::bare(Kind::Unreadable(Unread::Return));
+        return Err(Unread::Return);
     }
-    let name = part_name(due);
-    if fields::is_name(name, words::word(line)) {
-        return behind_name(due, words::behind(line));
-    }
-    lines::not_due(1, Due::Field(Field::Word(name)))
+    named(part_name(due), 1, words::word(line))?;
+    behind_name(due, words::behind(line))
 }
 
 // Whether a word can begin a line behind a port's settings that is no event.
+#[tactic(auto, unfolding(crate::specs::Setup::settings_word))]
 fn is_settings_word(w: &[u8]) -> bool
     ensures { result ≡ settings_word w.now }
 {
-    if fields::is_name(Name::Control, w) {
-        return true;
-    }
-    fields::is_name(Name::Applications, w)
+    fields::is_name(Name::Control, w) || fields::is_name(Name::Applications, w)
 }
 
 // Whether a line behind a port's settings, which may be an event, is one of settings.
+#[tactic(auto, using(words::specs::WordsLaws::first_word_lem, words::specs::WordsLaws::other_words), unfolding(crate::specs::Setup::begins_settings, addressing::specs::Addressing::words_behind, addressing::specs::Addressing::port_word))]
 pub fn begins_settings(line: &[u8]) -> bool
     ensures { result ≡ begins_settings line.now }
 {
-    let w = addressing::port_of(line);
-    if w.given {
-        return is_settings_word(words::word(words::behind(line)));
+    match addressing::port_of(line) {
+        Some(_) => is_settings_word(words::word(words::behind(line))),
+        None => is_settings_word(words::word(line)),
     }
-    is_settings_word(words::word(line))
 }

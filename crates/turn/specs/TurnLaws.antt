@@ -1,6 +1,7 @@
 -- What a frame makes of a feature: its small part, decided first, and the parameters held of the peer. Laws for each way out of
 -- the functions. Assumes nothing.
-use Rattle.std.specs.Prelude.{◌≡◌, ℕ, Bool, true, false, not, ◌&&◌, ◌||◌, List, length, ◌≢◌, if◌then◌else◌}
+use Rattle.std.specs.Option.{is_some}
+use Rattle.std.specs.Prelude.{Option, ◌≡◌, ℕ, Bool, true, false, not, ◌&&◌, ◌||◌, List, length, ◌≢◌, if◌then◌else◌}
 use Rattle.std.proofs.Common.{arith, ◌∙◌, sym}
 use Rattle.std.proofs.Math.Bool.{beq}
 use Rattle.std.proofs.lemmas.Bool.{false≢true}
@@ -19,8 +20,8 @@ use Rattle.feature.specs.declared.State.{State}
 use Rattle.turn.specs.declared.Course.{Course}
 use Rattle.turn.specs.declared.Course.TheVariants.{Twice, OtherVersion, Exchange}
 use Rattle.turn.specs.declared.Turn.{Turn}
-use Rattle.feature.specs.Outcome.{Received, oper_of, max_of, parameters_of, lower, held_peer, without_peer, judged, outcome}
-use Rattle.feature.specs.OutcomeLaws.{decided, outcome_of}
+use Rattle.feature.specs.Outcome.{Received, oper_of, max_of, parameters_of, parameters_held, lower, held_peer, without_peer, judged, outcome}
+use Rattle.feature.specs.OutcomeLaws.{decided, outcome_of, outcome_whole}
 use Rattle.feature.specs.RulesLaws.{judged_peer}
 use Rattle.machine.specs.State.{next, flags, present, sub_tlv, changed, marked}
 use Rattle.turn.specs.Turn.{control_twice, acknowledged, received}
@@ -59,7 +60,7 @@ abbrev pub peer_parameters_now : Feature → List ℕ → Bool → Parameters
 peer_parameters_now f v held = if held then stored (ours f (parameters_of v)) else no_parameters
 
 -- a frame leaves what is held of the peer
-abbrev keeps_on : Course → Bool
+abbrev pub keeps_on : Course → Bool
 keeps_on Twice = false
 keeps_on OtherVersion = true
 keeps_on Exchange = false
@@ -68,7 +69,7 @@ unfoldable pub keeps_by : Course → State → Bool
 keeps_by c x = not x.setting.advertise || keeps_on c
 
 unfoldable pub peer_parameters_after : Course → Feature → List ℕ → Bool → State → Parameters
-peer_parameters_after c f v held x = if keeps_by c x then x.outcome.peer.parameters else peer_parameters_now f v held
+peer_parameters_after c f v held x = if keeps_by c x then parameters_held x.outcome.peer else peer_parameters_now f v held
 
 abbrev pub renewed : State → Turn → Parameters → State
 renewed x t p = record { max = x.max; setting = x.setting; outcome = outcome_of t.decision p; syncd = t.syncd; sequence = t.sequence }
@@ -195,9 +196,9 @@ module _ (x : State) (c : Course) where
     keeps_exchange e = simp (a, e)
 
 module _ (f : Feature) (v : List ℕ) (x : State) (c : Course) {b : Bool} (k : b ≡ keeps_by c x) (held : Bool) where
-  pub held_kept : b ≡ true → x.outcome.peer.parameters ≡ peer_parameters_after c f v held x
+  pub held_kept : b ≡ true → {p : Parameters} → p ≡ parameters_held x.outcome.peer → p ≡ peer_parameters_after c f v held x
   unfolding peer_parameters_after
-  held_kept t = simp (← k, t)
+  held_kept t e = e ∙ simp (← k, t)
 
   module _ (t : b ≡ false) {p : Parameters} where
     pub held_brought : {o : List ℕ} → held ≡ true → o ≡ parameters_of v → p ≡ stored (ours f o) → p ≡ peer_parameters_after c f v held x
@@ -209,8 +210,8 @@ module _ (f : Feature) (v : List ℕ) (x : State) (c : Course) {b : Bool} (k : b
     held_none h e = e ∙ simp (← k, t, h)
 
 -- the outcome holds the parameters that came exactly if it holds a peer
-Brought : Feature → List ℕ → Peer → Type 0
-Brought f v p = p.parameters ≡ peer_parameters_now f v p.held
+Brought : Feature → List ℕ → Option Peer → Type 0
+Brought f v p = parameters_held p ≡ peer_parameters_now f v (is_some p)
 
 ruled_brought : (f : Feature) (max : ℕ) (s : Setting) (oper low : ℕ) (v : List ℕ) (a b c d e : Bool) →
     Brought f v
@@ -276,12 +277,12 @@ marked_outcome f seq x y = by (changed f x y)
 
 -- the parameters that are held are those of the state after steps 1 to 4
 stepped_held : (c : Course) (f : Feature) (r : Received) (rcvd seq : ℕ) (x : State) →
-    peer_parameters_after c f r.value (stepped c f r rcvd seq x).outcome.peer.held x ≡ (stepped c f r rcvd seq x).outcome.peer.parameters
+    peer_parameters_after c f r.value (is_some (stepped c f r rcvd seq x).outcome.peer) x ≡ parameters_held (stepped c f r rcvd seq x).outcome.peer
 unfolding peer_parameters_after keeps_by control_twice received acknowledged Brought
 stepped_held c f r rcvd seq x = by c x.setting.advertise refl
   where
     by : (c : Course) (b : Bool) → x.setting.advertise ≡ b →
-        peer_parameters_after c f r.value (stepped c f r rcvd seq x).outcome.peer.held x ≡ (stepped c f r rcvd seq x).outcome.peer.parameters
+        peer_parameters_after c f r.value (is_some (stepped c f r rcvd seq x).outcome.peer) x ≡ parameters_held (stepped c f r rcvd seq x).outcome.peer
     by Twice true e = simp e
     by Twice false e = simp e
     by OtherVersion true e = simp e
@@ -290,12 +291,15 @@ stepped_held c f r rcvd seq x = by c x.setting.advertise refl
     by Exchange false e = simp e
 
 pub renewed_after : (c : Course) (f : Feature) (r : Received) (rcvd seq : ℕ) (x : State) →
-    renewed x (turn_of (after c f r rcvd seq x)) (peer_parameters_after c f r.value (after c f r rcvd seq x).outcome.peer.held x) ≡ after c f r rcvd seq x
+    renewed x (turn_of (after c f r rcvd seq x)) (peer_parameters_after c f r.value (is_some (after c f r rcvd seq x).outcome.peer) x) ≡ after c f r rcvd seq x
 renewed_after c f r rcvd seq x =
     let y : State = stepped c f r rcvd seq x in
     let z : State = marked f seq x y in
     let s : Same x z = after_same c f r rcvd seq x in
     let o : z.outcome ≡ y.outcome = marked_outcome f seq x y in
-    let h : peer_parameters_after c f r.value z.outcome.peer.held x ≡ z.outcome.peer.parameters =
-    ap (λ (b : Bool). peer_parameters_after c f r.value b x) (ap (λ (o : Outcome). o.peer.held) o) ∙ stepped_held c f r rcvd seq x ∙ ap (λ (o : Outcome). o.peer.parameters) (sym o) in
-    λ i. record { max = sym s.max i; setting = sym s.setting i; outcome = outcome_of (decided z.outcome) (h i); syncd = z.syncd; sequence = z.sequence }
+    let h : peer_parameters_after c f r.value (is_some z.outcome.peer) x ≡ parameters_held z.outcome.peer =
+    ap (λ (b : Bool). peer_parameters_after c f r.value b x) (ap (λ (o : Outcome). is_some o.peer) o) ∙ stepped_held c f r rcvd seq x
+    ∙ ap (λ (o : Outcome). parameters_held o.peer) (sym o) in
+    let w : outcome_of (decided z.outcome) (peer_parameters_after c f r.value (is_some z.outcome.peer) x) ≡ z.outcome =
+    ap (outcome_of (decided z.outcome)) h ∙ outcome_whole z.outcome in
+    λ i. record { max = sym s.max i; setting = sym s.setting i; outcome = w i; syncd = z.syncd; sequence = z.sequence }

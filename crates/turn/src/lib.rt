@@ -30,22 +30,9 @@ pub struct Turn {
 fn kept(x: State, syncd: bool) -> Turn
     ensures { result ≡ kept_at x syncd }
 {
-    let o = x.outcome;
-    let p = o.peer;
-    let why = o.reason;
     Turn {
-        decision: Decision {
-            reason: why,
-            oper: o.oper,
-            error: o.error,
-            mode: o.mode,
-            held: p.held,
-            enable: p.enable,
-            willing: p.willing,
-            fault: p.error,
-            adopts: o.adopts,
-        },
-        syncd: syncd,
+        decision: Decision::from(x.outcome),
+        syncd,
         sequence: x.sequence,
     }
 }
@@ -64,7 +51,7 @@ fn weigh(x: State, d: Decision, syncd: bool, seq: u32) -> Turn
     }
     Turn {
         decision: d,
-        syncd: syncd,
+        syncd,
         sequence: x.sequence,
     }
 }
@@ -72,7 +59,7 @@ fn weigh(x: State, d: Decision, syncd: bool, seq: u32) -> Turn
 fn anew(d: Decision, seq: u32) -> Turn
     ensures { result ≡ record { decision = d; syncd = false; sequence = next seq } }
 {
-    let up = std::num::wrapping_add_u32(seq, 1);
+    let up = seq.wrapping_add(1);
     Turn {
         decision: d,
         syncd: false,
@@ -140,18 +127,12 @@ pub fn handle(
 }
 
 // Whether a frame leaves what is held of the peer.
+#[tactic(auto, unfolding(crate::specs::TurnLaws::keeps_by))]
 fn keeps(x: State, course: Course) -> bool
     ensures { result ≡ keeps_by course x }
 {
     let s = x.setting;
-    if !s.advertise {
-        return true;
-    }
-    match course {
-        Course::Twice => false,
-        Course::OtherVersion => true,
-        Course::Exchange => false,
-    }
+    !s.advertise || matches!(course, Course::OtherVersion)
 }
 
 // The parameters held of the peer after a frame: `held` says whether there is one.
@@ -165,9 +146,8 @@ pub fn peer_parameters_after(
     ensures { result ≡ peer_parameters_after course f value.now held x }
 {
     let o = x.outcome;
-    let p = o.peer;
     if keeps(x, course) {
-        return p.parameters;
+        return feature::parameters_held(o.peer);
     }
     if held {
         return config::store(f, octets::from(value, 4));

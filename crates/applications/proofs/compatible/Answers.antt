@@ -1,16 +1,14 @@
--- `applications::compatible` meets its contract: the walk is left at the first clash, and no entry before i, nor before j for entry i, clashes. Assumes nothing.
-use borrow.Author.Rules.{rules}
-use Rattle.applications.specs.ApplicationsLaws.{row_more, walk_clash, walk_more, walk_end}
+-- `compatible` meets its contract. Assumes nothing.
+use Rattle.std.proofs.Common.{rules, ◌∙◌}
+use Rattle.std.proofs.lemmas.Iterator.{YieldsList-from_slice}
+use Rattle.std.proofs.lemmas.Iterator.Search.{all_from_yields_List}
+use Rattle.std.specs.List.{list_all}
+use borrow.Author.Tests.{tests}
+use Rattle.applications.specs.Entries.{entries, no_clash}
+use Rattle.applications.specs.EntriesLaws.{compatible_listed}
 use Rattle.applications.proofs.compatible.Goals as goal
 
-pub loop-j-preserved : goal.loop-j-preserved
-loop-j-preserved c = (search rules, search row_more)
-
-pub walk-preserved : goal.walk-preserved
-walk-preserved c = (search rules, search walk_more)
-
-pub returns-after-walk : goal.returns-after-walk
-returns-after-walk c = search walk_end
-
-pub returns-then-clash : goal.returns-then-clash
-returns-then-clash c = search walk_clash
+pub returns : goal.returns
+returns c =
+    all_from_yields_List (λ e. list_all (no_clash e) (entries c.args.q.now)) _ _ _ c.all.ensures.ran (YieldsList-from_slice (entries c.args.p.now) cc) (λ x b q k. search (rules, tests))
+    ∙ compatible_listed c.args.p.now c.args.q.now

@@ -1,15 +1,14 @@
--- `applications::local_values` meets its contract: each entry before i is ours, with selector 0 or 1. Assumes nothing.
-use Rattle.applications.specs.ApplicationsLaws.{local_foreign, selector_high, local_more, local_end}
+-- `local_values` meets its contract. Assumes nothing.
+use Rattle.std.proofs.Common.{rules, ◌∙◌}
+use Rattle.std.proofs.lemmas.Iterator.{YieldsList-from_slice}
+use Rattle.std.proofs.lemmas.Iterator.Search.{all_from_yields_List}
+use borrow.Author.Tests.{tests}
+use Rattle.applications.specs.Entries.{entries, local_entry}
+use Rattle.applications.specs.EntriesLaws.{local_listed}
 use Rattle.applications.proofs.local_values.Goals as goal
 
-pub returns-then-not-is_ours : goal.returns-then-not-is_ours
-returns-then-not-is_ours c = search local_foreign
-
-pub returns-then-selector_of-ge2 : goal.returns-then-selector_of-ge2
-returns-then-selector_of-ge2 c = search selector_high
-
-pub loop-i-preserved : goal.loop-i-preserved
-loop-i-preserved c = search local_more
-
 pub returns : goal.returns
-returns c = search local_end
+unfolding local_entry
+returns c =
+    all_from_yields_List local_entry _ _ _ c.all.ensures.ran (YieldsList-from_slice (entries c.args.p.now) cc) (λ x b q k. search (rules, tests))
+    ∙ local_listed c.args.p.now

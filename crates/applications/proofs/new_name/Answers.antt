@@ -1,13 +1,11 @@
--- `applications::new_name` meets its contract: none of the first j noted entries has the name. Assumes nothing.
-use Rattle.applications.specs.AllLaws.{passed_end}
-use Rattle.applications.specs.ApplicationsLaws.{name_again, name_more}
+-- `new_name` meets its contract. Assumes nothing.
+use Rattle.std.proofs.Common.{rules}
+use Rattle.std.proofs.lemmas.Iterator.{YieldsList-from_slice}
+use Rattle.std.proofs.lemmas.Iterator.Search.{all_from_yields_List}
+use borrow.Author.Tests.{tests}
+use Rattle.applications.specs.Entries.{other_name}
 use Rattle.applications.proofs.new_name.Goals as goal
 
-pub returns-then-same_name : goal.returns-then-same_name
-returns-then-same_name c = search name_again
-
-pub loop-j-preserved : goal.loop-j-preserved
-loop-j-preserved c = search name_more
-
 pub returns : goal.returns
-returns c = search passed_end
+unfolding other_name
+returns c = all_from_yields_List (other_name c.args.e.now) _ _ _ c.all.ensures.ran (YieldsList-from_slice c.args.own.now cc) (λ x b q k. search (rules, tests))

@@ -5,8 +5,8 @@ use Rattle.machine.proofs.judge_again.Goals as goal
 pub returns-then-not-s : goal.returns-then-not-s
 returns-then-not-s c = search judged_again_withheld
 
-pub returns-then-peer : goal.returns-then-peer
-returns-then-peer c = search judged_again_held
+pub returns-in-Some : goal.returns-in-Some
+returns-in-Some c = search judged_again_held
 
-pub returns : goal.returns
-returns c = search judged_again_alone
+pub returns-in-None : goal.returns-in-None
+returns-in-None c = search judged_again_alone
