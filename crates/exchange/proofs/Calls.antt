@@ -58,7 +58,7 @@ refused_by : (p : Port) (o : List ℕ) (why : Refusal) (place : ℕ) (a b : Bool
 unfolding given accepted frame_event rejected
 refused_by p o why place false b x e = let k : refusal.NotRunning ≡ why = cc in ap (λ (y : Refusal). with_broken p (breaks y)) k
 refused_by p o why place true true x e = let k : refusal.SeveralNeighbours ≡ why = cc in ap (λ (y : Refusal). with_broken p (breaks y)) k
-refused_by p o why place true false (Err r) e = let k : r.why ≡ why = cc in ap (λ (r.why : Refusal). with_broken p (breaks r.why)) k
+refused_by p o why place true false (Err r) e = let k : r.why ≡ why = cc in ap (λ (y : Refusal). with_broken p (breaks y)) k
 refused_by p o why place true false (Ok c) e = cc
 
 pub refused_marks : (p : Port) (o : List ℕ) (why : Refusal) (place : ℕ) → (handled p o).answer ≡ Err (rejection why place) → (handled p o).port ≡ with_broken p (breaks why)

@@ -2,8 +2,8 @@
 use Rattle.rounds.specs.RoundLaws.{received_frame, received_none}
 use Rattle.rounds.proofs.deliver.Goals as goal
 
-pub returns-in-Octets : goal.returns-in-Octets
-returns-in-Octets c = search received_frame
+pub returns-in-Ok : goal.returns-in-Ok
+returns-in-Ok c = search received_frame
 
-pub returns-in-Refused : goal.returns-in-Refused
-returns-in-Refused c = search received_none
+pub returns-in-Err : goal.returns-in-Err
+returns-in-Err c = search received_none
