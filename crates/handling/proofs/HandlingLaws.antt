@@ -1,6 +1,7 @@
 -- Handling a frame by its small part, decided first, and the port that is made of it: laws for each way out of the functions. Assumes
 -- nothing.
-use Rattle.std.specs.Prelude.{ℕ, Bool, true, false, ◌&&◌, ◌||◌, ◌≡◌, List, if◌then◌else◌}
+use Rattle.tlv.specs.Refusals.{rejection}
+use Rattle.std.specs.Prelude.{ℕ, Bool, true, false, ◌&&◌, ◌||◌, ◌≡◌, List, if◌then◌else◌, Ok, Err}
 use Rattle.std.proofs.Math.Bool.{not}
 use Rattle.std.proofs.Common.{◌∙◌}
 use Rattle.std.proofs.Math.Path.{refl, sym, ap}
@@ -8,12 +9,10 @@ use Rattle.octets.specs.Words.{◌below◌, ◌is◌}
 use Rattle.octets.specs.Octets.{same}
 use Rattle.contents.specs.declared.Contents.{Contents}
 use Rattle.contents.specs.declared.Found.{Found}
-use Rattle.tlv.specs.declared.Refusal.{Refusal}
+use Rattle.tlv.specs.declared.Rejection.{Rejection}
 use Rattle.tlv.specs.declared.Refusal.TheVariants.{NotRunning, SeveralNeighbours}
-use Rattle.contents.specs.declared.Reading.{Reading}
-use Rattle.contents.specs.declared.Reading.TheVariants.{Refused, Accepted}
 use Rattle.reading.specs.Revisions.{read_for}
-use Rattle.contents.specs.Contents.{value_of}
+use Rattle.contents.specs.Contents.{Reading, value_of}
 use Rattle.parameters.specs.declared.Feature.{Feature}
 use Rattle.parameters.specs.declared.Feature.TheVariants.{Groups, Flow, Applications}
 use Rattle.parameters.specs.declared.Parameters.{Parameters}
@@ -31,7 +30,6 @@ use Rattle.port.specs.declared.Port.{Port}
 use Rattle.port.specs.declared.Released.{Released}
 use Rattle.port.specs.declared.Notices.{Notices}
 use Rattle.port.specs.declared.Event.{Event}
-use Rattle.port.specs.declared.Answer.TheVariants.{Done}
 use Rattle.notices.specs.declared.Kind.TheVariants.{DuplicateControl}
 use Rattle.port.specs.Parts.{feature_of, three, with_control, with_features, presents, with_released, release, some, running}
 use Rattle.port.specs.Writing.{control_value, asks}
@@ -50,7 +48,7 @@ unfolding handled given admitted
 handled_admitted p o = by (running p) p.several
   where
     by : (a b : Bool) → (if not a then rejected NotRunning 0 p else if b then rejected SeveralNeighbours 0 p else given o (read_for p.revision o) p)
-        ≡ given o (if not a then Refused NotRunning 0 else if b then Refused SeveralNeighbours 0 else read_for p.revision o) p
+        ≡ given o (if not a then Err (rejection NotRunning 0) else if b then Err (rejection SeveralNeighbours 0) else read_for p.revision o) p
     by false b = refl
     by true true = refl
     by true false = refl
@@ -185,21 +183,21 @@ module _ (p : Port) (o : List ℕ) {r : Reading} (er : Admits p o r) where
   admitted_event : handled p o ≡ given o r p
   admitted_event = handled_admitted p o ∙ ap (λ (r : Reading). given o r p) (sym er.answers)
 
-  pub handle_refused : {why : Refusal} {place : ℕ} {e : Event} → r ≡ Refused why place → e ≡ rejected why place p → e ≡ handled p o
+  pub handle_refused : {x : Rejection} {e : Event} → r ≡ Err x → e ≡ rejected x.why x.place p → e ≡ handled p o
   unfolding given
   handle_refused e ee = rw (admitted_event, e) ee
 
-  handle_accepted : {k : Contents} {d : Change} {q : Port} → r ≡ Accepted k → d ≡ change_of o k p → q ≡ completed p (steps1to4 o k p)
-      → record { answer = Done d.wish; port = q; notices = d.notices } ≡ handled p o
+  handle_accepted : {k : Contents} {d : Change} {q : Port} → r ≡ Ok k → d ≡ change_of o k p → q ≡ completed p (steps1to4 o k p)
+      → record { answer = Ok d.wish; port = q; notices = d.notices } ≡ handled p o
   unfolding given accepted frame_event change_of
   handle_accepted e ed eq = rw (admitted_event, e, ed, eq) refl
 
-module _ {p : Port} {o : List ℕ} {c : Contents} (a : Admits p o (Accepted c)) where
+module _ {p : Port} {o : List ℕ} {c : Contents} (a : Admits p o (Ok c)) where
   module _ {d : Change} (ed : d ≡ change_of o c p) {q : Port} (eq : q ≡ unreleased o c p) where
-    pub accept_released : d.releases ≡ true → {x : Port} → x ≡ release q → record { answer = Done d.wish; port = x; notices = d.notices } ≡ handled p o
+    pub accept_released : d.releases ≡ true → {x : Port} → x ≡ release q → record { answer = Ok d.wish; port = x; notices = d.notices } ≡ handled p o
     unfolding change_of
     accept_released t ex = handle_accepted p o a refl ed (ex ∙ ap release eq ∙ released_is o c p (sym (ap (λ (d : Change). d.releases) ed) ∙ t))
 
-    pub accept_kept : d.releases ≡ false → record { answer = Done d.wish; port = q; notices = d.notices } ≡ handled p o
+    pub accept_kept : d.releases ≡ false → record { answer = Ok d.wish; port = q; notices = d.notices } ≡ handled p o
     unfolding change_of
     accept_kept t = handle_accepted p o a refl ed (eq ∙ kept_is o c p (sym (ap (λ (d : Change). d.releases) ed) ∙ t))
