@@ -6,13 +6,13 @@ use std::{fs, str};
 
 const LONGEST: usize = 4095;
 
-// Where settings come from: standard input, or a file, which is open. Of a file that cannot be opened, the length of its name. In
-// place of reading, help may be asked for, or the arguments make no sense.
+// Where settings come from: standard input, or a file, which is open. Of a file that cannot be opened, its name. In place of
+// reading, help may be asked for, or the arguments make no sense.
 #[derive(Drop)]
-pub enum Source {
+pub enum Source<'a> {
     Input,
     File(File),
-    Unopened(usize),
+    Unopened(&'a [u8]),
     Help,
     Unknown,
 }
@@ -23,7 +23,7 @@ fn opened<R: Files<File = File>>(rt: &R, name: &[u8]) -> Option<File> {
     fs::open(rt, path).ok()
 }
 
-fn source_of<R: Files<File = File>>(rt: &R, word: &[u8]) -> Source {
+fn source_of<'a, R: Files<File = File>>(rt: &R, word: &'a [u8]) -> Source<'a> {
     if LONGEST < word.len() {
         return Source::Unknown;
     }
@@ -32,7 +32,7 @@ fn source_of<R: Files<File = File>>(rt: &R, word: &[u8]) -> Source {
         [b'-', ..] => Source::Unknown,
         name => match opened(rt, name) {
             Some(file) => Source::File(file),
-            None => Source::Unopened(name.len()),
+            None => Source::Unopened(name),
         },
     }
 }
@@ -43,7 +43,7 @@ fn has_second<R: Env>(rt: &R) -> bool {
 }
 
 // By at most one argument, which is put at the start of `name`.
-pub fn asked<R: Env + Files<File = File>>(rt: &R, name: &mut [u8]) -> Source {
+pub fn asked<'a, R: Env + Files<File = File>>(rt: &R, name: &'a mut [u8]) -> Source<'a> {
     match rt.arg(1, name) {
         Err(FillError::NotPresent) => Source::Input,
         Err(FillError::TooLong) => Source::Unknown,

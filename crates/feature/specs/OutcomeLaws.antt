@@ -1,6 +1,6 @@
 -- The outcome rules by what they decide beside the peer's parameters, a law for each: premises in the form in which a test leaves
 -- them. Assumes nothing.
-use Rattle.std.specs.Prelude.{Option, None, Some, ℕ, ◌<◌, ◌≤◌, Bool, false, not, ◌&&◌, ◌≡◌, refl, List, length, take}
+use Rattle.std.specs.Prelude.{Option, None, Some, ℕ, ◌<◌, ◌≤◌, Bool, false, not, ◌&&◌, ◌≡◌, refl, List, length}
 use Rattle.std.proofs.Math.Bool.{true}
 use Rattle.std.specs.Bool.{beq}
 use Rattle.std.proofs.Common.{◌∙◌, arith}
@@ -11,7 +11,6 @@ use Rattle.parameters.specs.declared.Parameters.{Parameters}
 use Rattle.parameters.specs.Parameters.{valid, compatible, content, ours, stored, no_parameters}
 use Rattle.config.specs.FeatureLaws.{ours_length}
 use Rattle.parameters.specs.StoringLaws.{content_stored}
-use Rattle.parameters.specs.WritingLaws.{content_of}
 use Rattle.applications.specs.OursLaws.{compatible_ours}
 use Rattle.feature.specs.declared.Reason.TheVariants.{Absent, Duplicate, Bad, Waiting, Disabled, Agreed, NotCompatible}
 use Rattle.feature.specs.declared.Setting.{Setting}
@@ -142,13 +141,11 @@ judges f s oper w t q k =
     ∙ ap decided (sym (judged_by_lem f s oper (peer_of w q)))
 
 -- as the code lends the two ends' parameters
-pub judged_lent : (f : Feature) (s : Setting) (oper : ℕ) (w : Flags) (t : List ℕ) {x : Switches} {n : ℕ} {own : List ℕ} {d : Decision} → x ≡ switches_of s
-    → n ≡ s.desired.length → own ≡ take n s.desired.octets → d ≡ judged_with x oper w (compatible f own t)
+pub judged_lent : (f : Feature) (s : Setting) (oper : ℕ) (w : Flags) (t : List ℕ) {x : Switches} {own : List ℕ} {d : Decision} → x ≡ switches_of s
+    → own ≡ content s.desired → d ≡ judged_with x oper w (compatible f own t)
     → d ≡ judged_on f (switches_of s) (content s.desired) oper w t
 unfolding judged_on
-judged_lent f s oper w t {x} {n} {own} ex en eo e =
-    let c : own ≡ content s.desired = content_of s.desired en eo in
-    e ∙ (λ i. judged_with (ex i) oper w (compatible f (c i) t))
+judged_lent f s oper w t ex eo e = e ∙ (λ i. judged_with (ex i) oper w (compatible f (eo i) t))
 
 pub judged_value : (f : Feature) (s : Setting) (oper : ℕ) (v : List ℕ) {x : Switches} {own : List ℕ} {w : Flags} {t : List ℕ} {d : Decision} → x ≡ switches_of s
     → own ≡ content s.desired → w ≡ flags_of v → t ≡ parameters_of v → d ≡ judged_with x oper w (compatible f own t)

@@ -72,7 +72,7 @@ pub struct Switches {
 }
 
 // What an end is set to for one feature. `desired` is DesiredCfg.
-#[derive(Clone, Copy)]
+#[derive(Clone, Copy, Debug, PartialEq, Eq)]
 pub struct Setting {
     pub advertise: bool,
     pub enable: bool,
@@ -81,7 +81,7 @@ pub struct Setting {
 }
 
 // What is held of the peer.
-#[derive(Clone, Copy)]
+#[derive(Clone, Copy, Debug, PartialEq, Eq)]
 pub struct Peer {
     pub enable: bool,
     pub willing: bool,
@@ -90,7 +90,7 @@ pub struct Peer {
 }
 
 // What the outcome rules decide. OperCfg is the peer's configuration where the end `adopts` it, and else its own.
-#[derive(Clone, Copy)]
+#[derive(Clone, Copy, Debug, PartialEq, Eq)]
 pub struct Outcome {
     pub reason: Reason,
     pub oper: u8,
@@ -120,7 +120,7 @@ pub struct Flags {
 }
 
 // A feature's state. `sequence` is FeatureSeqNo.
-#[derive(Clone, Copy)]
+#[derive(Clone, Copy, Debug, PartialEq, Eq)]
 pub struct State {
     pub max: u8,
     pub setting: Setting,
@@ -130,7 +130,7 @@ pub struct State {
 }
 
 // What a sub-TLV is written from, beside the feature's Max, which is fixed: none is written where the setting does not advertise.
-#[derive(Clone, Copy)]
+#[derive(Clone, Copy, Debug, PartialEq, Eq)]
 pub struct Release {
     pub setting: Setting,
     pub oper: u8,

@@ -1,11 +1,13 @@
 -- A feature's state, a law for each way out of its functions: premises in the form in which a test leaves them. Assumes nothing.
-use Rattle.std.specs.Prelude.{Some, ◌≡◌, ℕ, ◌+◌, ◌*◌, ◌/◌, ◌%◌, ◌≤◌, Bool, true, false, not, List, [], ◌∷◌, length, take, ◌≢◌}
+use Rattle.std.specs.Cmp.Lexicographic.{pointwise}
+use Rattle.parameters.specs.StoringLaws.{same_parameters_eq}
+use Rattle.std.specs.Prelude.{◌&&◌, eqb, Some, ◌≡◌, ℕ, ◌+◌, ◌*◌, ◌/◌, ◌%◌, ◌≤◌, Bool, true, false, not, List, [], ◌∷◌, length, ◌≢◌}
 use Rattle.std.specs.Bool.{beq}
 use Rattle.std.proofs.Math.Bool.{and-false}
 use Rattle.std.proofs.lemmas.Bool.{false≢true}
 use Rattle.std.proofs.Common.{◌∙◌, ap, ap₂, arith}
 use Rattle.std.proofs.Math.Path.{refl, sym}
-use Rattle.parameters.specs.WritingLaws.{Size, content_of}
+use Rattle.parameters.specs.WritingLaws.{Size}
 use Rattle.std.proofs.lemmas.List.Edits.{sets}
 use Rattle.octets.specs.Octets.{same, headed}
 use Rattle.octets.specs.Laws.{same_is, same_refl, sets_append}
@@ -38,11 +40,6 @@ module _ (sequence max : ℕ) (s : Setting) {d : Decision} {p : Parameters} {o :
       → record { max = max; setting = s; outcome = o; syncd = true; sequence = sequence } ≡ fresh_at sequence max s
   unfolding fresh_at
   fresh_withheld t ed eo = simp (eo, ed, ep, t)
-
--- the octets of two configurations as the code lends them
-pub same_content_is : (a b : Parameters) {m n : ℕ} {x y : List ℕ} {r : Bool} → m ≡ a.length → x ≡ take m a.octets → n ≡ b.length → y ≡ take n b.octets
-    → r ≡ same x y → r ≡ same (content a) (content b)
-same_content_is a b em ex en ey e = e ∙ ap₂ same (content_of a em ex) (content_of b en ey)
 
 -- ---- whether the written sub-TLV changed
 
@@ -132,37 +129,27 @@ pub setting_is : (f : Feature) (w : Switches) (p : List ℕ) {d : Parameters} �
     → record { advertise = w.advertise; enable = w.enable; willing = w.willing; desired = d } ≡ setting_of f w p
 setting_is f w p e = rw e refl
 
-module _ (s t : Setting) where
-  pub settings_advertise : not (beq s.advertise t.advertise) ≡ true → false ≡ same_setting s t
-  unfolding same_setting
-  settings_advertise a = simp (not-true (beq s.advertise t.advertise) a)
-
-  module _ (a : not (beq s.advertise t.advertise) ≡ false) where
-    pub settings_enable : not (beq s.enable t.enable) ≡ true → false ≡ same_setting s t
-    unfolding same_setting
-    settings_enable b = simp (not-false (beq s.advertise t.advertise) a, not-true (beq s.enable t.enable) b)
-
-    module _ (b : not (beq s.enable t.enable) ≡ false) where
-      pub settings_willing : not (beq s.willing t.willing) ≡ true → false ≡ same_setting s t
-      unfolding same_setting
-      settings_willing c =
-          simp (not-false (beq s.advertise t.advertise) a, not-false (beq s.enable t.enable) b, not-true (beq s.willing t.willing) c)
-
-      pub settings_parameters : {r : Bool} → not (beq s.willing t.willing) ≡ false → r ≡ same_parameters s.desired t.desired → r ≡ same_setting s t
-      unfolding same_setting
-      settings_parameters c e =
-          simp (e, not-false (beq s.advertise t.advertise) a, not-false (beq s.enable t.enable) b, not-false (beq s.willing t.willing) c)
+-- what `==` of two settings says
+pub settings_eq : (s t : Setting) {r : Bool}
+    → r ≡ (beq s.advertise t.advertise && (beq s.enable t.enable && (beq s.willing t.willing && (eqb s.desired.length t.desired.length && pointwise eqb s.desired.octets t.desired.octets))))
+    → r ≡ same_setting s t
+unfolding same_setting
+settings_eq s t e = e ∙ rw (same_parameters_eq s.desired t.desired) (regrouped (beq s.advertise t.advertise) (beq s.enable t.enable) (beq s.willing t.willing) (same_parameters s.desired t.desired))
+  where
+    regrouped : (a b c d : Bool) → (a && (b && (c && d))) ≡ (a && b && c && d)
+    regrouped true true c d = refl
+    regrouped true false c d = refl
+    regrouped false b c d = refl
 
 -- rules 6 to 9 for a peer that is held, whose parameters stay
-pub judged_held : (f : Feature) (s : Setting) (oper : ℕ) (p : Peer) {x : Switches} → x ≡ switches_of s → {m n : ℕ} {own t : List ℕ}
-    → m ≡ s.desired.length → own ≡ take m s.desired.octets → n ≡ p.parameters.length → t ≡ take n p.parameters.octets → {w : Flags} → w ≡ peer_flags p → {d : Decision}
-    → d ≡ judged_with x oper w (compatible f own t)
+pub judged_held : (f : Feature) (s : Setting) (oper : ℕ) (p : Peer) {x : Switches} → x ≡ switches_of s → {own t : List ℕ}
+    → own ≡ content s.desired → t ≡ content p.parameters → {w : Flags} → w ≡ peer_flags p → {d : Decision} → d ≡ judged_with x oper w (compatible f own t)
     → {r : Outcome} → r ≡ outcome_of d p.parameters → r ≡ judged f s oper p
-judged_held f s oper p {x} ex {m} {n} {own} {t} em eo en et {w} ew {d} ed er =
+judged_held f s oper p {x} ex {own} {t} eo et {w} ew {d} ed er =
     let v : Flags = peer_flags p in
     let e : d ≡ decided (judged f s oper p) =
-    judged_lent f s oper v t ex em eo (ed ∙ ap (λ (u : Flags). judged_with x oper u (compatible f own t)) ew)
-    ∙ judges f s oper v t p.parameters (ap (compatible f (content s.desired)) (sym (content_of p.parameters en et))) in
+    judged_lent f s oper v t ex eo (ed ∙ ap (λ (u : Flags). judged_with x oper u (compatible f own t)) ew)
+    ∙ judges f s oper v t p.parameters (ap (compatible f (content s.desired)) (sym et)) in
     let m : (judged f s oper p).peer ≡ Some p = judged_peer f s oper p in
     er ∙ ap (λ (d : Decision). outcome_of d p.parameters) e ∙ outcome_again (judged f s oper p) p m
 

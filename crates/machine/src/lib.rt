@@ -86,10 +86,7 @@ fn flags_of(x: Release) -> u8
 fn same_content(a: Parameters, b: Parameters) -> bool
     ensures { result ≡ same (content a) (content b) }
 {
-    octets::same_octets(
-        octets::first(&a.octets, usize::from(a.length)),
-        octets::first(&b.octets, usize::from(b.length)),
-    )
+    octets::same_octets(a.content(), b.content())
 }
 
 // Whether two releases write different sub-TLVs, each of a feature with its Max.
@@ -127,7 +124,7 @@ pub fn mark(f: Feature, seq: u32, before: State, after: State) -> State
     if !differs(f, before.max, x, after.max, y) {
         return after;
     }
-    let up = std::num::wrapping_add_u32(seq, 1);
+    let up = seq.wrapping_add(1);
     let mut next = after;
     next.syncd = false;
     next.sequence = up;
@@ -151,18 +148,7 @@ pub fn setting_of(f: Feature, w: Switches, p: &[u8]) -> Setting
 pub fn same_setting(s: Setting, t: Setting) -> bool
     ensures { result ≡ same_setting s t }
 {
-    if s.advertise != t.advertise {
-        return false;
-    }
-    if s.enable != t.enable {
-        return false;
-    }
-    if s.willing != t.willing {
-        return false;
-    }
-    let a = s.desired;
-    let b = t.desired;
-    parameters::same_parameters(a, b)
+    s == t
 }
 
 // Rules 6 to 9 again, for a peer that is held.
@@ -170,8 +156,8 @@ fn judge_held(f: Feature, s: Setting, oper: u8, p: Peer) -> Outcome
     ensures { result ≡ judged f s oper p }
 {
     let q = p.parameters;
-    let desired = octets::first(&s.desired.octets, usize::from(s.desired.length));
-    let theirs = octets::first(&q.octets, usize::from(q.length));
+    let desired = s.desired.content();
+    let theirs = q.content();
     let decision = feature::judge(Switches::from(s), oper, Flags::from(p), || {
         config::compatible(f, desired, theirs)
     });
@@ -204,7 +190,7 @@ pub fn set_anew(f: Feature, seq: u32, s: Setting, x: State) -> State
 {
     let t = x.setting;
     if t.advertise != s.advertise {
-        let up = std::num::wrapping_add_u32(seq, 1);
+        let up = seq.wrapping_add(1);
         return fresh_at(up, x.max, s);
     }
     let o = x.outcome;
@@ -242,12 +228,7 @@ fn put_header(out: &mut [u8], at: usize, kind: u8, size: u8, oper: u8, max: u8, 
     requires { (at + 6 ≤ length out.old) × (kind ≤ 127) }
     ensures { out.new ≡ sets out.old at ((kind * 2) ∷ size ∷ oper ∷ max ∷ bits ∷ 0 ∷ []) }
 {
-    out[at] = kind * 2;
-    out[at + 1] = size;
-    out[at + 2] = oper;
-    out[at + 3] = max;
-    out[at + 4] = bits;
-    out[at + 5] = 0;
+    octets::numbers::put(out, at, &[kind * 2, size, oper, max, bits, 0]);
 }
 
 // Writes the sub-TLV at `at`. The caller has refused a short output before, by the frame's length; hence the `requires`.
@@ -260,7 +241,7 @@ pub fn put_sub_tlv(out: &mut [u8], at: usize, f: Feature, max: u8, x: Release)
         return;
     }
     let p = s.desired;
-    let kind = parameters::feature_number(f);
+    let kind = u8::from(f);
     let bits = flags_of(x);
     put_parts(out, at, kind, x.oper, max, bits, p);
 }

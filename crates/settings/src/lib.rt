@@ -109,11 +109,6 @@ impl Setting {
     }
 }
 
-// Whether it is the line as a whole that cannot be read.
-fn is_unread_whole(said: Result<Line, Unread>) -> bool {
-    matches!(said, Err(Unread::Long | Unread::Return))
-}
-
 // A line behind the control has to name its port, `of`.
 fn check_port(of: Option<u8>, port: Option<u8>, line: u64) -> Result<(), Wrong> {
     match of {
@@ -135,7 +130,7 @@ fn read_line(input: &mut Input, due: Part, ports: bool, of: Option<u8>) -> Resul
         None
     };
     let said = setup::parse_setting(due, addressing::behind_port(line, port));
-    if !is_unread_whole(said) {
+    if !matches!(said, Err(Unread::Long | Unread::Return)) {
         check_port(of, port, number)?;
     }
     let line = said.map_err(|why| Wrong::Unread {

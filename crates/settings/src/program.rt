@@ -47,7 +47,7 @@ pub fn run<P: Program>(rt: &HostRuntime) {
     match console::arguments::asked(rt, &mut name) {
         Source::Input => serve::<P>(streams, Reader::of_standard(rt.stdin()), false),
         Source::File(file) => serve::<P>(streams, Reader::of_file(file, rt.stdin()), true),
-        Source::Unopened(n) => refuse_unopened::<P>(streams, octets::first(&name, n)),
+        Source::Unopened(file) => refuse_unopened::<P>(streams, file),
         Source::Help => streams.usage(P::USAGE, true),
         Source::Unknown => streams.usage(P::USAGE, false),
     }

@@ -1,4 +1,7 @@
 // What is wrong with settings, and how it is said.
+ghost use Rattle.std.specs.Prelude.{◌≡◌};
+ghost use Rattle.console.specs.declared.Standing.TheVariants.{Failed};
+
 use console::Input;
 use faults::Fault;
 use lines::Unread;
@@ -43,7 +46,9 @@ pub enum Wrong {
 
 impl Wrong {
     // Of a line that was due and not found.
-    pub fn missing(input: &Input, due: Part) -> Wrong {
+    pub fn missing(input: &Input, due: Part) -> Wrong
+        ensures { input.now.standing ≡ Failed → result ≡ Wrong.Failed }
+    {
         if input.has_failed() {
             return Wrong::Failed;
         }
@@ -54,7 +59,9 @@ impl Wrong {
     }
 
     // Puts what is wrong, a line; of a read that has failed nothing.
-    pub fn put(self, page: &mut Output) {
+    pub fn put(self, page: &mut Output)
+        ensures { self ≡ Wrong.Failed → page.new ≡ page.old }
+    {
         match self {
             Wrong::Failed => {}
             Wrong::Missing { line, due } => {

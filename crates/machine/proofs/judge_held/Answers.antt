@@ -6,5 +6,5 @@ use Rattle.machine.proofs.judge_held.Goals as goal
 
 pub returns : goal.returns
 returns c =
-    judged_held c.args.f c.args.s c.args.oper c.args.p c.from-3.ensures c.from.ensures c.first-desired.ensures c.from-2.ensures c.first-theirs.ensures c.from-4.ensures
-    (c.judge-decision.ensures (compatible c.args.f c.first-desired.result.now c.first-theirs.result.now) (λ b p. search rules)) c.outcome_of.ensures
+    judged_held c.args.f c.args.s c.args.oper c.args.p c.from.ensures c.content-desired.ensures c.content-theirs.ensures c.from-2.ensures
+    (c.judge-decision.ensures (compatible c.args.f c.content-desired.result.now c.content-theirs.result.now) (λ b p. search rules)) c.outcome_of.ensures
