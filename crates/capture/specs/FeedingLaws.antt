@@ -9,13 +9,15 @@ use Rattle.std.proofs.Math.Bool.{true, false}
 use mathlib.Core.List.{List, [], ◌∷◌, ◌++◌, append_assoc, append-nil}
 use Rattle.std.proofs.Math.ListN.{length, take, drop, drop_of_length-le, length-drop}
 use Rattle.std.proofs.Math.Seq.{drop-drop, take_all}
-use borrow.Author.Tests.{lt-ltb, le-ltb, ne_eqb, eqb-true}
+use borrow.Author.Tests.{lt-ltb, le-ltb, eq-eqb, ne_eqb, eqb-true}
 use Rattle.octets.specs.Words.{◌below◌, ◌is◌}
-use Rattle.capture.specs.declared.Held.{Held}
+use Rattle.words.specs.Text.{held, pending}
 use Rattle.capture.specs.Capture.{last_line, lines_from}
-use Rattle.capture.specs.Steps.{before, Before, clipped, held_of, pending}
-use Rattle.capture.specs.Feeding.{in_turn, joined, Fed, fed_from, held_fed, ended}
-use Rattle.capture.specs.HoldLaws.{pending_held, clipped_twice}
+use Rattle.capture.specs.Steps.{before, Before, clipped, held_of, Front}
+use Rattle.capture.specs.declared.Feed.{Feed}
+use Rattle.capture.specs.Feeding.{in_turn, joined, Fed, fed_from, held_fed, ended, fed}
+use Rattle.words.specs.TextLaws.{pending_held}
+use Rattle.capture.specs.HoldLaws.{clipped_twice}
 
 module _ {A : Type 0} (step : A → List ℕ → A) where
   -- ---- lines that end in a read
@@ -139,24 +141,24 @@ module _ {A : Type 0} (step : A → List ℕ → A) where
   -- ---- a read. Of a line that is too long only the front is held: it must do what the whole line does.
 
   module _ (long : (t : A) (w : List ℕ) → step t (clipped w) ≡ step t w) where
-    module _ (t : A) (r s : List ℕ) {n : ℕ} {piece : List ℕ} {h : Held} (p : Before s n) (ep : piece ≡ take n s) (eh : h ≡ held_of (clipped (r ++ piece))) where
-      pub feed_none : length s ≤ n → {R : Type 0} (make : A → Held → R) → make t h ≡ held_fed make (fed_from step t r s)
+    module _ (t : A) (r s : List ℕ) {n : ℕ} {piece : List ℕ} {h : Front} (p : Before s n) (ep : piece ≡ take n s) (eh : h ≡ held_of (clipped (r ++ piece))) where
+      pub feed_none : length s ≤ n → {R : Type 0} (make : A → Front → R) → make t h ≡ held_fed make (fed_from step t r s)
       unfolding held_fed
       feed_none l make =
           let e : piece ≡ s = ep ∙ take_all n s l in
           rw (fed_none t r s (omega (arith, p.place)), eh, e) refl
 
-      pub feed_some : {front rest : List ℕ} {x : A} {i : ℕ} {o k : Held} → n < length s → front ≡ take h.n h.octets → Passes t front s x i
-          → o ≡ held_of [] → rest ≡ drop i s → k ≡ held_of (clipped (pending o ++ rest)) → {R : Type 0} (make : A → Held → R) → make x k ≡ held_fed make (fed_from step t r s)
+      pub feed_some : {front rest : List ℕ} {x : A} {i : ℕ} {o k : Front} → n < length s → front ≡ take h.n h.octets → Passes t front s x i
+          → o ≡ held_of [] → rest ≡ drop i s → k ≡ held_of (clipped (pending o ++ rest)) → {R : Type 0} (make : A → Front → R) → make x k ≡ held_fed make (fed_from step t r s)
       unfolding held_fed fed_behind
       feed_some {front} {rest} {x} {i} {o} {k} l ef px eo er ek make =
           let z : before s < length s = omega (arith, p.place) in
           let e : piece ≡ take (before s) s = ep ∙ rw p.place refl in
-          let f : front ≡ clipped (r ++ take (before s) s) = ef ∙ rw (eh, e) (pending_held (clipped (r ++ take (before s) s))) in
+          let f : front ≡ clipped (r ++ take (before s) s) = ef ∙ rw (eh, e) (pending_held 1101 (clipped (r ++ take (before s) s))) in
           let g : step t front ≡ step t (r ++ take (before s) s) = rw f (long t (r ++ take (before s) s)) in
           let q : fed_from step t r s ≡ record { value = x; rest = drop i s } =
           fed_to t r s z ∙ rw (← g) (rw (lt-ltb (before s) (length s) z) at px.same) in
-          let j : pending o ≡ [] = rw eo (pending_held []) in
+          let j : pending o ≡ [] = rw eo (pending_held 1101 []) in
           rw (q, ek, j, er) refl
 
     -- ---- two reads, one behind the other, are one
@@ -174,7 +176,7 @@ module _ {A : Type 0} (step : A → List ℕ → A) where
     fed_append [] u t w = refl
     fed_append (c ∷ s) u t w = append_step (c is 10) t w c s u (fed_append s u (step t w) []) (fed_append s u t (w ++ (c ∷ [])))
 
-    module _ {R : Type 0} (make : A → Held → R) where
+    module _ {R : Type 0} (make : A → Front → R) where
       -- ---- what is cut off of a long line makes no difference
 
       clip_step : (b : Bool) (t : A) (w : List ℕ) (c : ℕ) (s : List ℕ)
@@ -194,10 +196,10 @@ module _ {A : Type 0} (step : A → List ℕ → A) where
 
       -- ---- all reads, where one gives what it is given with
 
-      module _ (feed : R → List ℕ → R) (fed : (t : A) (h : Held) (s : List ℕ) → feed (make t h) s ≡ held_fed make (fed_from step t (pending h) s)) where
+      module _ (feed : R → List ℕ → R) (fed : (t : A) (h : Front) (s : List ℕ) → feed (make t h) s ≡ held_fed make (fed_from step t (pending h) s)) where
         fed_one : (s : List ℕ) (t : A) (w : List ℕ) → feed (held_fed make (record { value = t; rest = w })) s ≡ held_fed make (fed_from step t w s)
         unfolding held_fed
-        fed_one s t w = fed t (held_of (clipped w)) s ∙ rw (pending_held (clipped w)) (fed_clipped s t w)
+        fed_one s t w = fed t (held_of (clipped w)) s ∙ rw (pending_held 1101 (clipped w)) (fed_clipped s t w)
 
         pub fed_all : (ss : List (List ℕ)) (t : A) (w : List ℕ) → in_turn feed (held_fed make (record { value = t; rest = w })) ss ≡ held_fed make (fed_from step t w (joined ss))
         unfolding in_turn joined fed_from
@@ -208,9 +210,9 @@ module _ {A : Type 0} (step : A → List ℕ → A) where
 
       -- ---- the end
 
-      module _ (finish : R → A) (finished : (t : A) (h : Held) → finish (make t h) ≡ ended step t h) where
+      module _ (finish : R → A) (finished : (t : A) (h : Front) → finish (make t h) ≡ ended step t h) where
         held_count : (w : List ℕ) → (held_of w).n ≡ length w
-        unfolding held_of
+        unfolding held
         held_count w = refl
 
         finish_one : (t : A) (w : List ℕ) → finish (held_fed make (record { value = t; rest = w })) ≡ in_turn step t (last_line w)
@@ -219,7 +221,7 @@ module _ {A : Type 0} (step : A → List ℕ → A) where
         finish_one t (c ∷ w) =
             let l : length (clipped (c ∷ w)) ≡ suc (length (take 1100 w)) = refl in
             let n : (length (clipped (c ∷ w)) is 0) ≡ false = ne_eqb (length (clipped (c ∷ w))) 0 (λ z. omega arith) in
-            finished t (held_of (clipped (c ∷ w))) ∙ rw (pending_held (clipped (c ∷ w)), held_count (clipped (c ∷ w)), n) (long t (c ∷ w))
+            finished t (held_of (clipped (c ∷ w))) ∙ rw (pending_held 1101 (clipped (c ∷ w)), held_count (clipped (c ∷ w)), n) (long t (c ∷ w))
 
         lines_step : (b : Bool) (t : A) (w : List ℕ) (c : ℕ) (s : List ℕ)
             → finish (held_fed make (fed_from step (step t w) [] s)) ≡ in_turn step (step t w) (lines_from [] s)
@@ -236,3 +238,14 @@ module _ {A : Type 0} (step : A → List ℕ → A) where
 
 pub passing_less : (i n l : ℕ) → i < l → l - (i + n + 1) < l - i
 passing_less i n l h = omega arith
+
+-- ---- the end
+
+module _ {A : Type 0} (step : A → List ℕ → A) (r : Feed A) where
+  pub ended_none : r.held.n ≡ 0 → r.value ≡ ended step r.value r.held
+  unfolding ended
+  ended_none e = rw (eq-eqb r.held.n 0 e) refl
+
+  pub ended_some : {x : Feed A} → (r.held.n ≡ 0 → ⊥) → x ≡ fed step r (10 ∷ []) → x.value ≡ ended step r.value r.held
+  unfolding ended held_fed fed_from
+  ended_some n e = rw (e, ne_eqb r.held.n 0 n) refl

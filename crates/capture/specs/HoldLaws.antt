@@ -1,80 +1,53 @@
 -- What is held of a line: laws for `hold`, and that what is cut off of a line that is too long decides nothing. Assumes nothing.
-use Prim.Native.Nat.{ℕ, suc, ◌+◌, ◌-◌, ◌/◌, ◌%◌, ◌≤◌, ◌<◌, min}
-use Rattle.std.proofs.Common.{arith, add-one, sym, ◌∙◌, length-append, length-take, length-drop, take-suc, get_or-take, get_or-append-add, length-take-le, take_at, leb-true, leb-false, eqb-true}
+use Prim.Native.Nat.{ℕ, ◌+◌, ◌-◌, ◌/◌, ◌%◌, ◌≤◌, ◌<◌}
+use Rattle.std.proofs.Common.{arith, sym, ◌∙◌, length-append, length-take, length-drop, length-take-le, take_at, leb-true, leb-false, eqb-true}
 use Rattle.std.proofs.Math.Path.{◌≡◌, refl, ap}
-use Rattle.std.specs.Prelude.{Bool, true, false, ◌&&◌, take, drop, set, if◌then◌else◌}
-use mathlib.Core.List.{List, [], ◌∷◌, ◌++◌}
-use Rattle.std.proofs.Math.ListN.{length, replicate, get_or-append}
-use Rattle.std.proofs.Math.Seq.{take_all, append_snoc, take-append_seam}
-use Rattle.std.proofs.lemmas.List.{set_at, take-append-le}
+use Rattle.std.specs.Prelude.{Bool, true, false, ◌&&◌, take, drop, if◌then◌else◌}
+use mathlib.Core.List.{List, ◌++◌}
+use Rattle.std.proofs.Math.ListN.{length, replicate}
+use Rattle.std.proofs.Math.Seq.{take_all, take-append-add, length-sets}
+use Rattle.std.proofs.lemmas.List.{take-append-le, length-replicate, drop-replicate}
+use Rattle.std.proofs.lemmas.List.Edits.{sets, sets-eq}
+use Rattle.octets.specs.Laws.{sets_append}
 use Rattle.std.proofs.lemmas.Bool.{lt-leb}
 use Rattle.octets.specs.Words.{◌atmost◌, ◌is◌}
-use Rattle.octets.specs.Octets.{at, same}
+use Rattle.octets.specs.Octets.{same}
 use Rattle.octets.specs.Texts.{text}
-use Rattle.words.specs.Text.{is_octets, hex_digits}
-use Rattle.capture.specs.declared.Held.{Held}
+use Rattle.words.specs.Text.{is_octets, hex_digits, held, pending}
 use Rattle.capture.specs.declared.Form.TheVariants.{FromA, FromB, Other}
 use Rattle.capture.specs.Capture.{form_of}
-use Rattle.capture.specs.Steps.{clipped, held_of, pending}
+use Rattle.capture.specs.Steps.{clipped, held_of, Front}
 
--- ---- one run behind another
+-- ---- holding: what was held, and behind it what there is room for
 
-module _ (a b : List ℕ) (i : ℕ) where
-  pub both_first : i < length a → at a i ≡ at (a ++ b) i
-  both_first h = sym (get_or-append a b 0 i h)
+module _ (f m s : List ℕ) (l : length f ≤ 1101) (em : m ≡ take (1101 - length f) s) where
+  held_front : f ++ m ≡ clipped (f ++ s)
+  held_front = let k : length f + (1101 - length f) ≡ 1101 = omega arith in rw em (sym (rw k at (take-append-add f s (1101 - length f))))
 
-  pub both_second : {x : ℕ} → length a ≤ i → x ≡ at b (i - length a) → x ≡ at (a ++ b) i
-  both_second h e =
-      let m : length a + (i - length a) ≡ i = omega arith in
-      e ∙ sym (get_or-append-add a b (i - length a) 0) ∙ rw m refl
+  held_length : length f + length m ≤ 1101
+  held_length = omega (arith, ap length held_front, length-append f m, length-take 1101 (f ++ s))
 
--- ---- holding: of both runs the first i octets stand in the array
+  module _ {one : List ℕ} (e1 : one ≡ sets (replicate 1101 0) 0 f) where
+    pub held_room : length f + length m ≤ length one
+    held_room = omega (arith, held_length, ap length e1, length-sets (replicate {A = ℕ} 1101 0) 0 f, length-replicate {A = ℕ} 1101 0)
 
-pub record Filling (a s out : List ℕ) (n i : ℕ) : Type 0 where
-  pub all : n ≡ length (clipped (a ++ s))
-  pub within : i ≤ n
-  pub most : n ≤ 1101
-  pub octets : out ≡ take i (clipped (a ++ s)) ++ replicate (1101 - i) 0
+    module _ {two : List ℕ} (e2 : two ≡ sets one (length f) m) where
+      held_octets : two ≡ f ++ m ++ replicate (1101 - (length f + length m)) 0
+      held_octets =
+          let z : 0 + length f ≡ length f = omega arith in
+          let k : 0 + length (f ++ m) ≤ length (replicate {A = ℕ} 1101 0) = omega (arith, held_length, length-append f m, length-replicate {A = ℕ} 1101 0) in
+          let d : drop {A = ℕ} (0 + length (f ++ m)) (replicate {A = ℕ} 1101 0) ≡ replicate {A = ℕ} (1101 - (0 + length (f ++ m))) 0 = drop-replicate {X = ℕ} (0 + length (f ++ m)) 1101 0 in
+          let n : 0 + length (f ++ m) ≡ length f + length m = omega (arith, length-append f m) in
+          let a : sets (sets (replicate {A = ℕ} 1101 0) 0 f) (length f) m ≡ sets (replicate {A = ℕ} 1101 0) 0 (f ++ m) = sym (rw z at (sets_append (replicate {A = ℕ} 1101 0) 0 f m)) in
+          e2 ∙ rw e1 (a ∙ sets-eq (f ++ m) (replicate {A = ℕ} 1101 0) 0 k ∙ rw (d, n) refl)
 
-module _ (a s : List ℕ) {n : ℕ} (e : n ≡ min 1101 (length a + length s)) where
-  held_length : n ≡ length (clipped (a ++ s))
-  held_length = rw (length-take, length-append) e
-
-  pub filling_start : Filling a s (replicate 1101 0) n 0
-  filling_start = record { all = held_length; within = omega arith; most = omega (arith, e); octets = refl }
-
-module _ {a s out : List ℕ} {n i : ℕ} where
-  pub filling_on : {x : ℕ} → Filling a s out n i → i < n → x ≡ at (a ++ s) i → Filling a s (set out i x) n (i + 1)
-  filling_on {x} r h e =
-      let w : List ℕ = clipped (a ++ s) in
-      let k : i < length w = omega (arith, r.all) in
-      let l : length (take i w) ≡ i = length-take-le i w (omega arith) in
-      let m : 1101 - i ≡ suc (1101 - suc i) = omega (arith, r.most) in
-      let o : out ≡ take i w ++ 0 ∷ replicate (1101 - suc i) 0 = rw m at r.octets in
-      let t : set out i x ≡ take i w ++ x ∷ replicate (1101 - suc i) 0 = rw o (set_at (take i w) 0 (replicate (1101 - suc i) 0) x i l) in
-      let g : at w i ≡ x = get_or-take 1101 (a ++ s) i 0 (omega (arith, r.most)) ∙ sym e in
-      record {
-        all = r.all;
-        within = omega arith;
-        most = r.most;
-        octets = t ∙ rw (add-one, take-suc w i 0 k, g) (sym (append_snoc (take i w) x (replicate (1101 - suc i) 0)));
-      }
-
-  pub filling_end : (h : Held) → Filling a s out n i → n ≤ i → a ≡ pending h → record { n = n; octets = out } ≡ held_of (clipped (pending h ++ s))
-  unfolding held_of
-  filling_end h r k e =
-      let w : List ℕ = clipped (a ++ s) in
-      let m : i ≡ length w = omega (arith, r.all, r.within) in
-      let o : out ≡ w ++ replicate (1101 - length w) 0 = r.octets ∙ rw (m, take_all (length w) w (omega arith)) refl in
-      let q : ◌≡◌ {A = Held} (record { n = n; octets = out }) (record { n = length w; octets = w ++ replicate (1101 - length w) 0 }) =
-      (λ t. record { n = r.all t; octets = o t }) in
-      q ∙ ap (λ (x : List ℕ). held_of (clipped (x ++ s))) e
+      pub hold_is : (h : Front) → f ≡ pending h → record { n = length f + length m; octets = two } ≡ held_of (clipped (pending h ++ s))
+      unfolding held
+      hold_is h ef =
+          let q : clipped (pending h ++ s) ≡ f ++ m = ap (λ (x : List ℕ). clipped (x ++ s)) (sym ef) ∙ sym held_front in
+          rw (q, length-append, held_octets) refl
 
 -- ---- what is held, read back
-
-pub pending_held : (w : List ℕ) → pending (held_of w) ≡ w
-unfolding held_of
-pending_held w = take-append_seam w (replicate (1101 - length w) 0)
 
 pub clipped_twice : (w s : List ℕ) → clipped (clipped w ++ s) ≡ clipped (w ++ s)
 clipped_twice w s = here (length w atmost 1101) refl
@@ -122,7 +95,3 @@ clipping w = here (length w atmost 1101) refl
         let l : 1101 ≤ length w = omega (arith, leb-false (length w) 1101 q) in
         let k : length (clipped w) ≡ 1101 = length-take-le 1101 w l in
         long (omega arith) (omega arith) (long_other (clipped w) (omega arith)) (long_other w l)
-
-pub held_nothing : {n : ℕ} {o : List ℕ} → n ≡ 0 → o ≡ replicate 1101 0 → record { n = n; octets = o } ≡ held_of []
-unfolding held_of
-held_nothing e f = rw (e, f) refl

@@ -149,6 +149,9 @@ module _ {s : List ℕ} {i : ℕ} where
       let t = rw (drop-cons s i 0 h, ne_eqb (at s i) 10 n) at r.same in
       record { within = omega arith; same = rw add-one (omega arith) }
 
-  pub along_end : Along s i → length s ≤ i → Before s i
+  pub along_end : Along s i → length s ≤ i → Before s (length s)
   unfolding before
-  along_end r h = record { place = sym (add-zero i) ∙ rw (drop_of_length-le s h) at r.same; within = r.within }
+  along_end r h =
+      let e : i ≡ length s = omega (arith, r.within) in
+      let p : i ≡ before s = sym (add-zero i) ∙ rw (drop_of_length-le s h) at r.same in
+      record { place = sym e ∙ p; within = omega arith }

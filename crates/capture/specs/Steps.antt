@@ -1,7 +1,8 @@
 -- What the functions look at on their way through an input: the octets before the first line feed, 16 octets at a time; what is held of a line.
-use Rattle.std.specs.Prelude.{ℕ, zero, suc, ◌+◌, ◌-◌, ◌≤◌, ◌≡◌, Bool, false, ◌||◌, List, [], ◌∷◌, ◌++◌, length, take, drop, replicate, if◌then◌else◌}
+use Rattle.std.specs.Prelude.{ℕ, zero, suc, ◌+◌, ◌≤◌, ◌≡◌, Bool, false, ◌||◌, List, [], ◌∷◌, length, take, drop, if◌then◌else◌}
 use Rattle.octets.specs.Words.{◌is◌}
-use Rattle.capture.specs.declared.Held.{Held}
+use Rattle.words.specs.declared.Held.{Held}
+use Rattle.words.specs.Text.{held}
 
 -- how many octets stand before the first line feed, all where there is none
 unfoldable pub before : List ℕ → ℕ
@@ -29,9 +30,9 @@ pub record Before (s : List ℕ) (n : ℕ) : Type 0 where
 abbrev pub clipped : List ℕ → List ℕ
 clipped w = take 1101 w
 
--- as it is held: zero past the last
-unfoldable pub held_of : List ℕ → Held
-held_of w = record { n = length w; octets = w ++ replicate (1101 - length w) 0 }
+-- as it is held
+abbrev pub Front : Type 0
+Front = Held 1101
 
-abbrev pub pending : Held → List ℕ
-pending h = take h.n h.octets
+abbrev pub held_of : List ℕ → Front
+held_of w = held 1101 w

@@ -1,10 +1,14 @@
 // A capture: its lines, wherever its octets are cut into reads, and the form of a line (docs/FORMATS.md, Captures).
 #![tactic(auto)]
 
-ghost use Rattle.std.specs.Prelude.{◌≡◌, [], ◌++◌, ◌+◌, ◌≤◌, min, length, drop, if◌then◌else◌};
-ghost use Rattle.octets.specs.Octets.{at};
+ghost use Rattle.std.specs.Prelude.{◌≡◌, ℕ, List, [], ◌++◌, ◌+◌, ◌≤◌, length, drop, if◌then◌else◌};
+ghost use Rattle.words.specs.Text.{pending};
 ghost use Rattle.capture.specs.Capture.{form_of};
-ghost use Rattle.capture.specs.Steps.{feed_in, Along, Before, clipped, held_of, pending};
+ghost use Rattle.capture.specs.Steps.{feed_in, Along, Before, clipped, held_of};
+ghost use Rattle.capture.specs.Feeding.{ended, feed_of, fed};
+ghost use Rattle.capture.specs.FeedingLaws.{Passes};
+
+use words::Held;
 
 const LINE_FEED: u8 = 10;
 
@@ -24,32 +28,18 @@ pub enum Form {
     Other,
 }
 
-// The front of a line that has not ended: its first `n` octets, zero past them. Of a line that is too long to be read the rest
-// is not held.
-#[derive(Clone, Copy)]
-pub struct Held {
-    pub n: usize,
-    pub octets: [u8; 1101],
-}
-
 // The form of a line, which has no line feed.
 pub fn form_of(line: &[u8]) -> Form
     ensures { result ≡ form_of line.now }
 {
-    if octets::octet(line, 1) != SPACE {
+    if octets::octet(line, 1) != SPACE || !words::is_octets(octets::from(line, 2), FRAME) {
         return Form::Other;
     }
-    if !words::is_octets(octets::from(line, 2), FRAME) {
-        return Form::Other;
+    match octets::octet(line, 0) {
+        b'A' => Form::FromA,
+        b'B' => Form::FromB,
+        _ => Form::Other,
     }
-    let sender = octets::octet(line, 0);
-    if sender == b'A' {
-        return Form::FromA;
-    }
-    if sender == b'B' {
-        return Form::FromB;
-    }
-    Form::Other
 }
 
 // Whether a line feed stands among the 16 octets from `from` on. The loop has one way through, so that it is compiled to a
@@ -59,15 +49,14 @@ fn has_feed(s: &[u8], from: usize) -> bool
     ensures { result ≡ feed_in 16 (drop from s.now) }
 {
     let mut any = false;
-    let mut i: usize = 0;
-    while i < 16 {
-        any = any | (s[from + i] == LINE_FEED);
-        i += 1;
+    for i in 0..16 {
+        any |= s[from + i] == LINE_FEED;
     }
     any
 }
 
-// How many octets in front are passed by, 16 at a time, without a line feed among them.
+// How many octets in front are passed by, 16 at a time, without a line feed among them. A `while`, since `step_by` needs an
+// invariant and a measure too, and makes the last step past the end.
 fn passed(s: &[u8]) -> usize
     ensures { Along s.now result }
 {
@@ -85,62 +74,27 @@ fn passed(s: &[u8]) -> usize
 pub fn line_length(s: &[u8]) -> usize
     ensures { Before s.now result }
 {
-    let mut i = passed(s);
-    while i < s.len() {
+    for i in passed(s)..s.len() {
         if s[i] == LINE_FEED {
             return i;
         }
-        i += 1;
     }
-    i
+    s.len()
 }
 
-// Nothing is held.
-pub fn nothing() -> Held
-    ensures { result ≡ held_of [] }
+// Holds `s` behind the front of a line that has not ended. Of a line that is too long to be read the rest is not held.
+pub fn hold(h: &Held<1101>, s: &[u8]) -> Held<1101>
+    ensures { result ≡ held_of (clipped (pending h.now ++ s.now)) }
 {
+    let front = h.as_slice();
+    let more = octets::first(s, HELD - front.len());
+    let mut octets = [0; 1101];
+    octets::numbers::put(&mut octets, 0, front);
+    octets::numbers::put(&mut octets, front.len(), more);
     Held {
-        n: 0,
-        octets: [0; 1101],
+        n: front.len() + more.len(),
+        octets,
     }
-}
-
-// How many of so many octets are held.
-fn kept(held: usize, more: usize) -> usize
-    ensures { result ≡ min 1101 (held + more) }
-{
-    if HELD <= held {
-        return HELD;
-    }
-    if HELD - held <= more {
-        return HELD;
-    }
-    held + more
-}
-
-// Octet `i` of two runs, one behind the other.
-fn octet_of_both(a: &[u8], b: &[u8], i: usize) -> u8
-    ensures { result ≡ at (a.now ++ b.now) i }
-{
-    if i < a.len() {
-        return a[i];
-    }
-    octets::octet(b, i - a.len())
-}
-
-// Holds `s` behind what is held.
-pub fn hold(h: Held, s: &[u8]) -> Held
-    ensures { result ≡ held_of (clipped (pending h ++ s.now)) }
-{
-    let front = octets::first(&h.octets, h.n);
-    let n = kept(front.len(), s.len());
-    let mut out = [0; 1101];
-    let mut i: usize = 0;
-    while i < n {
-        out[i] = octet_of_both(front, s, i);
-        i += 1;
-    }
-    Held { n: n, octets: out }
 }
 
 // One of two runs of octets.
@@ -148,4 +102,77 @@ pub fn chosen<'a>(first: bool, x: &'a [u8], y: &'a [u8]) -> &'a [u8]
     ensures { result.now ≡ (if first then x.now else y.now) }
 {
     if first { x } else { y }
+}
+
+// A value that each line of an input changes.
+pub trait Lines {
+    ghost with_line: { Self → List ℕ → Self };
+
+    // Takes a line, which is as it stands, without its line feed.
+    fn take_line(&mut self, line: &[u8])
+        ensures { self.new ≡ with_line self.old line.now };
+
+    // What is not held of a line that is too long makes no difference.
+    ghost long: { (t : Self) (w : List ℕ) → with_line t (clipped w) ≡ with_line t w };
+}
+
+// Takes the lines that end in `s`. The first of them began before `s`, and is `front` as a whole. Answers the place behind the
+// last line feed.
+pub fn pass_lines<'a, T: Lines>(t: &mut T, front: &'a [u8], s: &'a [u8]) -> usize
+    ensures { Passes T.with_line t.old front.now s.now t.new result }
+{
+    let mut at: usize = 0;
+    while at < s.len() {
+        let rest = octets::from(s, at);
+        let n = line_length(rest);
+        if rest.len() <= n {
+            return at;
+        }
+        t.take_line(chosen(at == 0, front, octets::first(rest, n)));
+        at = at + n + 1;
+    }
+    at
+}
+
+// Octets as they come, in reads of any length: the value of all lines that have ended, and the front of the line that has not.
+#[derive(Clone, Copy)]
+pub struct Feed<T> {
+    pub value: T,
+    pub held: Held<1101>,
+}
+
+impl<T: Lines> Feed<T> {
+    // Before the first octet.
+    pub fn start(value: T) -> Self
+        ensures { result ≡ feed_of value (held_of []) }
+    {
+        Feed {
+            value,
+            held: Held::none(),
+        }
+    }
+
+    // The next octets.
+    pub fn feed(&mut self, s: &[u8])
+        ensures { self.new ≡ fed T.with_line self.old s.now }
+    {
+        let n = line_length(s);
+        let front = hold(&self.held, octets::first(s, n));
+        if s.len() <= n {
+            self.held = front;
+            return;
+        }
+        let at = pass_lines(&mut self.value, front.as_slice(), s);
+        self.held = hold(&Held::none(), octets::from(s, at));
+    }
+
+    // The end, where the last line may lack its line feed: the value of all lines.
+    pub fn finish(mut self) -> T
+        ensures { result ≡ ended T.with_line self.value self.held }
+    {
+        if self.held.n != 0 {
+            self.feed(b"\n");
+        }
+        self.value
+    }
 }

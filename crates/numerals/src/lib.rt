@@ -9,10 +9,7 @@ ghost use Rattle.numerals.specs.NumeralLaws.{Laid, Spelled};
 pub fn more(n: u64) -> u64
     ensures { result ≡ more n }
 {
-    if n == u64::MAX {
-        return n;
-    }
-    n + 1
+    n.saturating_add(1)
 }
 
 // Puts the digits of a number, and answers how many there are.

@@ -1,7 +1,7 @@
 // Words, numbers and octets of a line.
 #![tactic(auto)]
 
-ghost use Rattle.std.specs.Prelude.{◌≡◌, ◌+◌, ◌*◌, ◌/◌, ◌%◌, ◌<◌, ◌==◌, not, min, [], position, length, drop};
+ghost use Rattle.std.specs.Prelude.{◌≡◌, ◌+◌, ◌*◌, ◌/◌, ◌%◌, ◌<◌, ◌≤◌, ◌==◌, not, min, [], position, length, drop};
 ghost use Rattle.std.specs.Bool.{beq};
 ghost use Rattle.words.specs.Text.{words, first, number, nibble, hex_digits, pair_at, octets_of, is_octets, held, pending};
 ghost use Rattle.words.specs.StepsLaws.{run, trimmed, first_word, rest, Nibbles};
@@ -34,7 +34,8 @@ impl<const N: usize> Held<N> {
 
     // The octets that count.
     pub fn as_slice(&self) -> &[u8]
-        ensures { result.now ≡ pending self.now }
+        ensures held { result.now ≡ pending self.now }
+        ensures within { length result.now ≤ N }
     {
         octets::first(&self.octets, self.n)
     }

@@ -1,10 +1,6 @@
 -- `has_feed` meets its contract: the first i octets are looked at, and the rest decides with them. Assumes nothing.
 use Rattle.capture.specs.LineLaws.{Seeking}
-use Prim.Native.Nat.{◌-◌}
 use Rattle.capture.proofs.has_feed.Given as goal
 
 abbrev pub invariant-loop-i : goal.invariant-loop-i
 invariant-loop-i l = Seeking l.s l.from l.any l.i
-
-abbrev pub decreases-loop-i : goal.decreases-loop-i
-decreases-loop-i l = 16 - l.i

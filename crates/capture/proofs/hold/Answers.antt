@@ -1,12 +1,9 @@
--- `hold` meets its contract: the first i octets stand in the array. Assumes nothing.
-use Rattle.capture.specs.HoldLaws.{filling_start, filling_on, filling_end}
+-- `hold` meets its contract. Assumes nothing.
+use Rattle.capture.specs.HoldLaws.{held_room, hold_is}
 use Rattle.capture.proofs.hold.Goals as goal
 
-pub loop-i-init : goal.loop-i-init
-loop-i-init c = search filling_start
-
-pub loop-i-preserved : goal.loop-i-preserved
-loop-i-preserved c = search filling_on
+pub put-requires-2 : goal.put-requires-2
+put-requires-2 c = held_room _ _ c.args.s.now c.as_slice-front.ensures.within c.first-more.ensures c.put.ensures
 
 pub returns : goal.returns
-returns c = search filling_end
+returns c = hold_is _ _ c.args.s.now c.as_slice-front.ensures.within c.first-more.ensures c.put.ensures c.put-2.ensures c.args.h.now c.as_slice-front.ensures.held
