@@ -1,7 +1,8 @@
 -- Handling a frame by its small part, decided first, and the port that is made of it: laws for each way out of the functions. Assumes
 -- nothing.
 use Rattle.tlv.specs.Refusals.{rejection}
-use Rattle.std.specs.Prelude.{ℕ, Bool, true, false, ◌&&◌, ◌||◌, ◌≡◌, List, if◌then◌else◌, Ok, Err}
+use Rattle.std.specs.Option.{is_some}
+use Rattle.std.specs.Prelude.{Option, None, Some, ℕ, Bool, true, false, ◌&&◌, ◌||◌, ◌≡◌, List, if◌then◌else◌, Ok, Err}
 use Rattle.std.proofs.Math.Bool.{not}
 use Rattle.std.proofs.Common.{◌∙◌}
 use Rattle.std.proofs.Math.Path.{refl, sym, ap}
@@ -16,7 +17,9 @@ use Rattle.contents.specs.Contents.{Reading, value_of}
 use Rattle.parameters.specs.declared.Feature.{Feature}
 use Rattle.parameters.specs.declared.Feature.TheVariants.{Groups, Flow, Applications}
 use Rattle.parameters.specs.declared.Parameters.{Parameters}
+use Rattle.feature.specs.declared.Peer.{Peer}
 use Rattle.feature.specs.declared.State.{State}
+use Rattle.feature.specs.OutcomeLaws.{flags_held}
 use Rattle.turn.specs.declared.Course.{Course}
 use Rattle.turn.specs.declared.Turn.{Turn}
 use Rattle.feature.specs.Outcome.{lower}
@@ -135,19 +138,24 @@ module _ (o : List ℕ) (c : Contents) (p : Port) where
         } in
         rw done (λ i. record { course = (eh i).course; wish = wish i; releases = up i; control = uk i; groups = eg i; flow = ew i; applications = ea i; notices = notices i })
 
+  held_alike : (q : Option Peer) → is_some (flags_held q) ≡ is_some q
+  held_alike None = refl
+  held_alike (Some q) = refl
+
   part_made : (f : Feature) {t : Turn} {way : Course} {x : Parameters} {y : State} → way ≡ (heard_of o c p.control).course → t ≡ turn_of (state_by o c p (heard_of o c p.control) f)
-      → x ≡ peer_parameters_after way f (has_of o c f).value t.decision.held (feature_of p f) → y ≡ renewed (feature_of p f) t x → y ≡ state_by o c p (heard_of o c p.control) f
+      → x ≡ peer_parameters_after way f (has_of o c f).value (is_some t.decision.peer) (feature_of p f) → y ≡ renewed (feature_of p f) t x → y ≡ state_by o c p (heard_of o c p.control) f
   part_made f {t} {way} {x} {y} ew et ex ey =
       let h : Heard = heard_of o c p.control in
       let v : List ℕ = (has_of o c f).value in
       let z : State = state_by o c p h f in
-      let e : x ≡ peer_parameters_after h.course f v z.outcome.peer.held (feature_of p f) = ex ∙ (λ i. peer_parameters_after (ew i) f v (et i).decision.held (feature_of p f)) in
+      let e : x ≡ peer_parameters_after h.course f v (is_some z.outcome.peer) (feature_of p f) = ex ∙ (λ i. peer_parameters_after (ew i) f v (is_some (et i).decision.peer) (feature_of p f))
+      ∙ ap (λ (b : Bool). peer_parameters_after h.course f v b (feature_of p f)) (held_alike z.outcome.peer) in
       ey ∙ (λ i. renewed (feature_of p f) (et i) (e i)) ∙ renewed_after h.course f (has_of o c f) h.control.rcvd p.control.seq (feature_of p f)
 
   pub apply_is : {k : Change} → k ≡ change_of o c p
-      → {x y z : Parameters} → x ≡ peer_parameters_after k.course Groups (value_of o c.groups) k.groups.decision.held p.groups
-      → y ≡ peer_parameters_after k.course Flow (value_of o c.flow) k.flow.decision.held p.flow
-      → z ≡ peer_parameters_after k.course Applications (value_of o c.applications) k.applications.decision.held p.applications
+      → {x y z : Parameters} → x ≡ peer_parameters_after k.course Groups (value_of o c.groups) (is_some k.groups.decision.peer) p.groups
+      → y ≡ peer_parameters_after k.course Flow (value_of o c.flow) (is_some k.flow.decision.peer) p.flow
+      → z ≡ peer_parameters_after k.course Applications (value_of o c.applications) (is_some k.applications.decision.peer) p.applications
       → {g w a : State} → g ≡ renewed p.groups k.groups x → w ≡ renewed p.flow k.flow y → a ≡ renewed p.applications k.applications z
       → with_features (with_control p k.control) (three g w a) ≡ unreleased o c p
   unfolding change_of

@@ -3,6 +3,7 @@
 #![tactic(auto)]
 
 ghost use Rattle.std.specs.Prelude.{◌≡◌, true, ◌+◌, ◌≤◌, length};
+ghost use Rattle.std.specs.Option.{is_some};
 ghost use Rattle.contents.specs.Contents.{value_of};
 ghost use Rattle.reading.specs.Promises.{Inside};
 ghost use Rattle.turn.specs.TurnLaws.{peer_parameters_after};
@@ -74,12 +75,11 @@ fn turn_of<F: Which>(x: State, h: Heard, seq: u32, s: &[u8], found: Found) -> Tu
 {
     let value = admission::part(s, found);
     let own = x.setting.desired;
-    let desired = octets::first(&own.octets, octets::wide(own.length));
     let d = feature::decide(
         F::FEATURE,
         x.max,
         x.setting,
-        desired,
+        own.content(),
         x.outcome.oper,
         found.count,
         value,
@@ -152,9 +152,15 @@ fn peer_parameters(
     found: Found,
 ) -> Parameters
     requires { found.start + found.length ≤ length s.now }
-    ensures { result ≡ peer_parameters_after course f (value_of s.now found) t.decision.held x }
+    ensures { result ≡ peer_parameters_after course f (value_of s.now found) (is_some t.decision.peer) x }
 {
-    turn::peer_parameters_after(f, x, course, t.decision.held, admission::part(s, found))
+    turn::peer_parameters_after(
+        f,
+        x,
+        course,
+        t.decision.peer.is_some(),
+        admission::part(s, found),
+    )
 }
 
 // The port with all features released (02, E5).
