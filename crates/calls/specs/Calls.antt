@@ -1,5 +1,5 @@
 -- The calls that users make of a recorder, one after the other: what each answers and leaves behind.
-use Rattle.std.specs.Prelude.{ℕ, Bool, List, [], ◌∷◌, if◌then◌else◌}
+use Rattle.std.specs.Prelude.{ℕ, Bool, List, [], ◌∷◌, if◌then◌else◌, Ok, Err}
 use Rattle.octets.specs.Words.{◌is◌}
 use Rattle.tlv.specs.Refusals.{Reply, done, refusal}
 use Rattle.parameters.specs.declared.Feature.{Feature}
@@ -16,7 +16,6 @@ use Rattle.port.specs.Replies.{event_reply, written_reply}
 use Rattle.recorder.specs.declared.Recorder.{Recorder}
 use Rattle.recorder.specs.declared.Change.TheVariants as change
 use Rattle.logging.specs.declared.Took.{Took}
-use Rattle.logging.specs.declared.Took.TheVariants as took
 use Rattle.logging.specs.Logging.{taken}
 use Rattle.recorder.specs.Recorder.{port_at, changed, created, stored, written, output}
 
@@ -102,8 +101,8 @@ lent_after r x = lent_at r x.port x.operation
 
 -- "Taking removes the oldest and gives its number and its feature, 0 for a port notice." Its port is the one that was asked.
 abbrev pub took_reply : Took → Reply
-took_reply (took.Notice x) = done (notice_number x.kind ∷ x.feature ∷ [])
-took_reply (took.Refused why) = refusal why
+took_reply (Ok x) = done (notice_number x.kind ∷ x.feature ∷ [])
+took_reply (Err why) = refusal why
 
 unfoldable pub reply_at : Recorder → ℕ → Operation → Reply
 reply_at r n (create v w o) = event_reply (event_of n (port_at r n) (create v w o)).answer

@@ -5,15 +5,14 @@ use mathlib.Core.Path.{◌≡◌, refl, sym, ap, ◌∙◌}
 use mathlib.Core.Bool.{Bool, true, false, not, beq, false≢true}
 use mathlib.Core.List.{List, []}
 use lib.Dec.{lit<}
-use Rattle.std.specs.Prelude.{if◌then◌else◌}
+use Rattle.std.specs.Prelude.{if◌then◌else◌, None, Ok, Err}
 use Rattle.octets.specs.Words.{◌below◌, ◌is◌}
 use Rattle.octets.specs.Laws.{and_left, and_right}
 use Rattle.tlv.specs.declared.Refusal.{Refusal}
 use Rattle.tlv.specs.declared.Refusal.TheVariants.{NotRunning, SeveralNeighbours, InvalidSetting, UnknownFeature}
 use Rattle.tlv.specs.Refusals.{refusal_number}
 use Rattle.contents.specs.declared.Contents.{Contents}
-use Rattle.contents.specs.declared.Reading.{Reading}
-use Rattle.contents.specs.declared.Reading.TheVariants.{Refused, Accepted}
+use Rattle.contents.specs.Contents.{Reading}
 use Rattle.tlv.specs.Revisions.{has_applications}
 use Rattle.reading.specs.Revisions.{read_for}
 use Rattle.parameters.specs.declared.Feature.{Feature}
@@ -30,8 +29,7 @@ use Rattle.machine.specs.State.{next, fresh_at, fresh, stopped, setting_of, same
 use Rattle.port.specs.declared.Flag.{Flag}
 use Rattle.port.specs.declared.Flag.TheVariants.{Admin, Receive, Transmit, Several}
 use Rattle.port.specs.declared.Port.{Port}
-use Rattle.port.specs.declared.Raised.{Raised}
-use Rattle.port.specs.declared.Raised.TheVariants as raised
+use Rattle.port.specs.Types.{Raised}
 use Rattle.port.specs.declared.Versions.{Versions}
 use Rattle.port.specs.Parts.{switched_off, feature_of, max_of, with_control, with_features, presents, flag_of, with_flag, running}
 use Rattle.sending.specs.Sending.{sent, fresh_control, fresh_parts, fresh_port, step5, completed}
@@ -135,8 +133,8 @@ handled_stands p o k h = by (running p) p.several (read_for p.revision o) refl
         → Standing (if not a then rejected NotRunning 0 p else if b then rejected SeveralNeighbours 0 p else given o x p).port
     by false b x r = rw (stopped_unmarked p h r) h
     by true true x r = running_stands _ (rejected_sound SeveralNeighbours 0 p h.sound) (rejected_in_step SeveralNeighbours 0 p h.steps) (rejected_runs SeveralNeighbours 0 p ∙ r)
-    by true false (Refused why place) r = running_stands _ (rejected_sound why place p h.sound) (rejected_in_step why place p h.steps) (rejected_runs why place p ∙ r)
-    by true false (Accepted c) r =
+    by true false (Err r) r = running_stands _ (rejected_sound r.why r.place p h.sound) (rejected_in_step r.why r.place p h.steps) (rejected_runs r.why r.place p ∙ r)
+    by true false (Ok c) r =
         running_stands (completed p (steps1to4 o c p)) (completed_sound p (steps1to4 o c p) (steps_sound o c p k h.sound)) (steps_in_step p h.steps r o c)
         (completed_runs p (steps1to4 o c p) ∙ steps_run p o c ∙ r)
 
@@ -374,7 +372,7 @@ module _ (p : Port) (h : Standing p) where
   changed_stands f has w o = by (valid_local f o) (same_setting (feature_of p f).setting (setting_of f w o)) refl
     where
       by : (a b : Bool) → valid_local f o ≡ a
-          → Standing (if a then if b then unchanged p else event raised.Nothing p (setting_changed f (setting_of f w o) p) else refused InvalidSetting p).port
+          → Standing (if a then if b then unchanged p else event None p (setting_changed f (setting_of f w o) p) else refused InvalidSetting p).port
       by false b v = h
       by true true v = h
       by true false v = set_stands f has (setting_of f w o) (setting_sound f w o v)
