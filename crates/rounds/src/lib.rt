@@ -18,6 +18,7 @@ pub struct Pair {
 }
 
 // Gives a port the frame that the other end wrote into `out`; where that write was refused, nothing happens.
+#[tactic(auto, unfolding(crate::specs::RoundLaws::received))]
 fn deliver(p: Port, w: Written, out: &[u8]) -> Event
     ensures { result ≡ received p w out.now }
 {
@@ -48,5 +49,5 @@ pub fn round(l: Port, r: Port, out_l: &mut [u8], out_r: &mut [u8]) -> Pair
 pub fn settled(l: Port, r: Port) -> bool
     ensures { result ≡ (settled l && settled r) }
 {
-    events::settled(l) & events::settled(r)
+    events::settled(l) && events::settled(r)
 }
