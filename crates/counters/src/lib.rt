@@ -96,7 +96,11 @@ pub fn count_reasons(c: &mut Changes, p: &Port, q: &Port)
 pub fn count_further(settled: bool, frames: u64) -> u64
     ensures { result ≡ further settled frames }
 {
-    if settled { frames } else { numerals::more(frames) }
+    if settled {
+        frames
+    } else {
+        numerals::more(frames)
+    }
 }
 
 // Whether both ends are settled, or were before.
