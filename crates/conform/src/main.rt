@@ -17,21 +17,21 @@ struct Judged(Judging);
 
 impl Course for Judged {
     fn feed(&mut self, octets: &[u8]) {
-        self.0 = conformance::feed(self.0, octets);
+        self.0.feed(octets);
     }
 
     fn lines(&self) -> u64 {
-        self.0.judged.course.lines
+        self.0.value.course.lines
     }
 
     // Behind the first frame that is not due nothing is read.
     fn is_over(&self) -> bool {
-        self.0.judged.rejected.is_some()
+        self.0.value.rejected.is_some()
     }
 
     // The verdict and what belongs to it.
-    fn report(&self, page: &mut Output) {
-        let judged = conformance::finish(self.0);
+    fn report(self, page: &mut Output) {
+        let judged = self.0.finish();
         let mut text = [0; 4096];
         let n = conformance::text::verdict(judged, &mut text);
         page.text(octets::first(&text, n));

@@ -1,5 +1,6 @@
 -- There is a fault exactly where a local setting is invalid, and 9 is given. Assumes nothing.
-use Rattle.std.specs.Prelude.{ℕ, ◌+◌, ◌%◌, ◌≤◌, ◌<◌, ◌≡◌, refl, Bool, true, false, not, ◌&&◌, List, [], ◌∷◌, length, take, if◌then◌else◌}
+use Rattle.std.specs.Prelude.{ℕ, ◌%◌, ◌≤◌, ◌<◌, ◌≡◌, refl, Bool, true, false, not, ◌&&◌, List, [], ◌∷◌, length, take, if◌then◌else◌, Option, Some, None, is_none, option_map}
+use Rattle.std.specs.Option.{option_or}
 use Rattle.std.proofs.Common.{arith, sym, ap, ◌∙◌, ltb-false, eqb-true, le-ltb, eq-eqb}
 use Rattle.std.proofs.lemmas.Bool.{not-true}
 use Rattle.octets.specs.Words.{◌below◌, ◌atmost◌, ◌is◌}
@@ -11,21 +12,8 @@ use Rattle.applications.specs.OursLaws.{all_own}
 use Rattle.applications.specs.ApplicationsLaws.{Entries, entries_told, entries_valid}
 use Rattle.parameters.specs.Parameters.{good_halves, percentages, groups_number, sum, valid_groups, flow_number, mask, valid_flow, ones, entry_count, selector_of, all_from, new_name, is_ours, ours, valid, local_values, valid_local}
 use Rattle.faults.specs.declared.Fault.{Fault}
-use Rattle.faults.specs.Faults.{good_priority, bad_priority, groups_fault, flow_fault, foreign_entry, second_entry, first_entry, low_selector, high_selector, applications_fault, fault_of}
+use Rattle.faults.specs.Faults.{good_priority, bad_priority, groups_fault, flow_fault, foreign_entry, second_entry, again, low_selector, high_selector, applications_fault, fault_of}
 use Rattle.faults.specs.FaultsLaws.{all_pass}
-
-unfoldable pub is_none : Fault → Bool
-is_none Fault.None = true
-is_none (Fault.Length n due) = false
-is_none (Fault.Ragged n) = false
-is_none (Fault.Group priority group) = false
-is_none (Fault.Sum total) = false
-is_none (Fault.Classes n) = false
-is_none (Fault.Ones n classes) = false
-is_none (Fault.Entries n) = false
-is_none (Fault.Foreign i) = false
-is_none (Fault.Again i j) = false
-is_none (Fault.Selector i selector) = false
 
 -- ---- groups
 
@@ -42,30 +30,29 @@ halves (a ∷ b ∷ []) h = absurd (omega arith)
 halves (a ∷ b ∷ c ∷ []) h = absurd (omega arith)
 halves (a ∷ b ∷ c ∷ d ∷ p) h = simp (and_more, and_true)
 
-groups_by : (a b c d : Bool) (n k g total classes : ℕ)
-    → is_none (if not a then Fault.Length n 13 else if b then Fault.Group k g else if not c then Fault.Sum total else if not d then Fault.Classes classes else Fault.None) ≡ (a && not b && c && d)
-unfolding is_none
-groups_by false b c d n k g total classes = refl
-groups_by true true c d n k g total classes = refl
-groups_by true false false d n k g total classes = refl
-groups_by true false true false n k g total classes = refl
-groups_by true false true true n k g total classes = refl
+groups_by : (a c d : Bool) (o : Option ℕ) (g : ℕ → Fault) (n total classes : ℕ)
+    → is_none (if not a then Some (Fault.Length n 13) else option_or (option_map g o) (if not c then Some (Fault.Sum total) else if not d then Some (Fault.Classes classes) else None))
+    ≡ (a && is_none o && c && d)
+groups_by false c d o g n total classes = refl
+groups_by true c d (Some k) g n total classes = refl
+groups_by true false d None g n total classes = refl
+groups_by true true false None g n total classes = refl
+groups_by true true true None g n total classes = refl
 
 groups_exact : (p : List ℕ) → is_none (groups_fault p) ≡ valid_groups p
 unfolding groups_fault valid_groups bad_priority
 groups_exact p =
-    groups_by (length p is 13) (bad_priority p below 8) (sum (percentages p) is 100) (groups_number p atmost 8) (length p) (bad_priority p) _ (sum (percentages p)) (groups_number p)
+    groups_by (length p is 13) (sum (percentages p) is 100) (groups_number p atmost 8) (bad_priority p) _ (length p) (sum (percentages p)) (groups_number p)
     ∙ ap (λ (b : Bool). b && sum (percentages p) is 100 && groups_number p atmost 8) (here (length p is 13) refl)
   where
-    here : (b : Bool) → length p is 13 ≡ b → (b && not (bad_priority p below 8)) ≡ (b && good_halves (take 4 p))
-    here true e = all_pass 8 (good_priority p) ∙ halves p (eqb-true (length p) 13 e)
+    here : (b : Bool) → length p is 13 ≡ b → (b && is_none (bad_priority p)) ≡ (b && good_halves (take 4 p))
+    here true e = all_pass 8 0 (good_priority p) ∙ halves p (eqb-true (length p) 13 e)
     here false e = refl
 
 -- ---- flow control
 
 flow_by : (a b c : Bool) (n classes x : ℕ)
-    → is_none (if not a then Fault.Length n 2 else if not b then Fault.Classes classes else if not c then Fault.Ones x classes else Fault.None) ≡ (a && b && c)
-unfolding is_none
+    → is_none (if not a then Some (Fault.Length n 2) else if not b then Some (Fault.Classes classes) else if not c then Some (Fault.Ones x classes) else None) ≡ (a && b && c)
 flow_by false b c n classes x = refl
 flow_by true false c n classes x = refl
 flow_by true true false n classes x = refl
@@ -77,17 +64,16 @@ flow_exact p = flow_by (length p is 2) (flow_number p atmost 8) (ones 8 (mask p)
 
 -- ---- applications
 
-entries_by : (a b c d e : Bool) (n k i j l m s : ℕ)
-    → is_none (if not a then Fault.Ragged n else if c then Fault.Foreign i else if b then Fault.Entries k else if d then Fault.Again j l else if e then Fault.Selector m s else Fault.None)
-    ≡ (a && (not b && (not c && (not d && not e))))
-unfolding is_none
-entries_by false b c d e n k i j l m s = refl
-entries_by true true true d e n k i j l m s = refl
-entries_by true true false d e n k i j l m s = refl
-entries_by true false true d e n k i j l m s = refl
-entries_by true false false true e n k i j l m s = refl
-entries_by true false false false true n k i j l m s = refl
-entries_by true false false false false n k i j l m s = refl
+entries_by : (a b : Bool) (n k : ℕ) (foreign second high : Option ℕ) (f g h : ℕ → Fault)
+    → is_none (if not a then Some (Fault.Ragged n) else option_or (option_map f foreign) (if b then Some (Fault.Entries k) else option_or (option_map g second) (option_map h high)))
+    ≡ (a && (not b && (is_none foreign && (is_none second && is_none high))))
+entries_by false b n k foreign second high f g h = refl
+entries_by true true n k (Some i) second high f g h = refl
+entries_by true true n k None second high f g h = refl
+entries_by true false n k (Some i) second high f g h = refl
+entries_by true false n k None (Some j) high f g h = refl
+entries_by true false n k None None (Some l) f g h = refl
+entries_by true false n k None None None f g h = refl
 
 sound : List ℕ → Bool
 sound p =
@@ -96,11 +82,10 @@ sound p =
     && (all_from (entry_count p) 0 (is_ours p) && (all_from (entry_count p) 0 (new_name p) && all_from (entry_count p) 0 (low_selector p))))
 
 none_sound : (p : List ℕ) → is_none (applications_fault p) ≡ sound p
-unfolding applications_fault foreign_entry second_entry high_selector sound
+unfolding applications_fault again foreign_entry second_entry high_selector sound
 none_sound p =
-    entries_by (length p % 6 is 0) (16 below entry_count p) (foreign_entry p below entry_count p) (second_entry p below entry_count p) (high_selector p below entry_count p)
-    (length p) (entry_count p) (foreign_entry p + 1) (first_entry p (second_entry p) + 1) (second_entry p + 1) (high_selector p + 1) (selector_of p (high_selector p))
-    ∙ rw (all_pass (entry_count p) (is_ours p), all_pass (entry_count p) (new_name p), all_pass (entry_count p) (low_selector p))
+    entries_by (length p % 6 is 0) (16 below entry_count p) (length p) (entry_count p) (foreign_entry p) (second_entry p) (high_selector p) _ _ _
+    ∙ rw (all_pass (entry_count p) 0 (is_ours p), all_pass (entry_count p) 0 (new_name p), all_pass (entry_count p) 0 (low_selector p))
 
 record Sound (p : List ℕ) : Type 0 where
   whole : length p % 6 ≡ 0

@@ -1,253 +1,170 @@
 -- Laws of the search for a fault. Assumes nothing.
-use Prim.Native.Nat.{ℕ, zero, suc, ◌+◌, ◌-◌, ◌/◌, ◌%◌, ◌≤◌, ◌<◌}
-use native.Mathlib.Omega.{arith}
-use Rattle.std.specs.Prelude.{◌≡◌, refl, Bool, List, length}
-use Rattle.std.proofs.Math.Path.{sym}
-use Rattle.std.proofs.Common.{ap, ◌∙◌}
-use Rattle.std.proofs.Math.Bool.{true, false, not}
-use borrow.Author.Tests.{lt-ltb, le-ltb, le-leb, lt-leb, eq-eqb, ne_eqb, not-true, not-false}
-use Rattle.octets.specs.Words.{◌below◌, ◌atmost◌, ◌is◌}
-use Rattle.octets.specs.Octets.{at}
-use Rattle.parameters.specs.declared.Feature.{Feature}
-use Rattle.parameters.specs.declared.Feature.TheVariants.{Groups, Flow, Applications}
-use Rattle.parameters.specs.Parameters.{group_of, percentages, good_group, sum, ones, entry_count, selector_of, same_name, all_from, new_name, is_ours}
+use Rattle.std.specs.Prelude.{ℕ, zero, suc, ◌+◌, ◌-◌, ◌≤◌, ◌<◌, ◌≡◌, refl, Bool, true, false, not, List, [], ◌∷◌, length, get_or, take, ltb, leb, position, Option, Some, None, is_none, MatchOption, IfSome, if◌then◌else◌}
+use Rattle.std.proofs.Common.{arith, sym, ap, ◌∙◌, length-take-le, get_or-take}
+use Rattle.std.specs.List.{position_from}
+use Rattle.std.proofs.lemmas.Iterator.Adapters.{position_from-zero}
+use Rattle.std.proofs.lemmas.Bool.Decides.{nat_tests}
+use Rattle.std.proofs.lemmas.Bool.{false≢true}
+use borrow.Author.Tests.{ltb-true, ltb-false}
+use Rattle.octets.specs.Words.{◌below◌}
+use Rattle.parameters.specs.Parameters.{entry_count, selector_of, same_name, all_from, new_name, is_ours}
+use Rattle.applications.specs.Entries.{entries}
+use Rattle.applications.specs.EntriesLaws.{entries_length, entry_is, met_within, met_is, met_all}
+use Rattle.applications.specs.OursLaws.{own_same, name_same, selector_same}
 use Rattle.faults.specs.declared.Fault.{Fault}
-use Rattle.faults.specs.Faults.{first_not, good_priority, bad_priority, groups_fault, flow_fault, foreign_entry, second_entry, other_entry, first_entry, low_selector, high_selector, applications_fault, fault_of}
+use Rattle.faults.specs.Faults.{first_not, foreign_entry, second_entry, other_entry, first_entry, again, low_selector, high_selector}
 
 -- ---- none fails exactly where all pass
 
-pub not_all : (n i : ℕ) (test : ℕ → Bool) → first_not n i test below (i + n) ≡ not (all_from n i test)
+pub all_pass : (n i : ℕ) (test : ℕ → Bool) → is_none (first_not n i test) ≡ all_from n i test
 unfolding first_not all_from
-not_all zero i test = le-ltb i (i + 0) (omega arith)
-not_all (suc n) i test = here (test i) refl (not_all n (i + 1) test)
+all_pass zero i test = refl
+all_pass (suc n) i test = here (test i) refl (all_pass n (i + 1) test)
   where
-    here : (b : Bool) → test i ≡ b → first_not n (i + 1) test below (i + 1 + n) ≡ not (all_from n (i + 1) test)
-        → first_not (suc n) i test below (i + suc n) ≡ not (all_from (suc n) i test)
-    here true e h = let z : i + suc n ≡ i + 1 + n = omega arith in simp (e, z, h)
-    here false e h = simp (e, lt-ltb i (i + suc n) (omega arith))
+    here : (b : Bool) → test i ≡ b → is_none (first_not n (i + 1) test) ≡ all_from n (i + 1) test → is_none (first_not (suc n) i test) ≡ all_from (suc n) i test
+    here true e h = rw e h
+    here false e h = rw e refl
 
-pub not_not : (b : Bool) → not (not b) ≡ b
-not_not true = refl
-not_not false = refl
+-- ---- the one that a search over the numbers finds
 
-pub all_pass : (n : ℕ) (test : ℕ → Bool) → not (first_not n 0 test below n) ≡ all_from n 0 test
-all_pass n test = let z : 0 + n ≡ n = omega arith in ap not (rw z at (not_all n 0 test)) ∙ not_not (all_from n 0 test)
-
--- ---- the walk over the numbers below n: none fails before i, and those from i on decide
-
-pub record Seeking (n : ℕ) (test : ℕ → Bool) (i : ℕ) : Type 0 where
-  pub within : i ≤ n
-  pub left : first_not (n - i) i test ≡ first_not n 0 test
-
-pub seeking_start : (n : ℕ) (test : ℕ → Bool) → Seeking n test 0
-seeking_start n test = let e : n - 0 ≡ n = omega arith in record { within = omega arith; left = rw e refl }
-
-module _ {n : ℕ} {test : ℕ → Bool} {i : ℕ} where
-  seeking_more : Seeking n test i → i < n → test i ≡ true → Seeking n test (i + 1)
+module _ (test : ℕ → Bool) where
+  pub is_first_not : (n i : ℕ) (r : Option ℕ)
+      → MatchOption r ((k : ℕ) → i ≤ k → k < i + n → test k ≡ true) (λ j. (i ≤ j) × (j < i + n) × (test j ≡ false) × ((k : ℕ) → i ≤ k → k < j → test k ≡ true))
+      → r ≡ first_not n i test
   unfolding first_not
-  seeking_more s h t = let e : n - i ≡ suc (n - (i + 1)) = omega arith in record { within = omega arith; left = rw (e, t) at s.left }
+  is_first_not zero i None h = refl
+  is_first_not zero i (Some j) h = absurd (omega (arith, h.0, h.1))
+  is_first_not (suc n) i r h = here (test i) refl r h (is_first_not n (i + 1))
+    where
+      Found : ℕ → ℕ → Option ℕ → Type 0
+      Found n i r = MatchOption r ((k : ℕ) → i ≤ k → k < i + n → test k ≡ true) (λ j. (i ≤ j) × (j < i + n) × (test j ≡ false) × ((k : ℕ) → i ≤ k → k < j → test k ≡ true))
 
-  seeking_found : Seeking n test i → i < n → test i ≡ false → i ≡ first_not n 0 test
-  unfolding first_not
-  seeking_found s h t = let e : n - i ≡ suc (n - (i + 1)) = omega arith in rw (e, t) at s.left
+      here : (b : Bool) → test i ≡ b → (r : Option ℕ) → Found (suc n) i r → ((r : Option ℕ) → Found n (i + 1) r → r ≡ first_not n (i + 1) test) → r ≡ first_not (suc n) i test
+      here true e None h f = rw e (f None (λ k a b. h k (omega arith) (omega arith)))
+      here true e (Some j) h f =
+          let o : j ≡ i → ⊥ = λ z. false≢true (sym h.2 ∙ ap test z ∙ e) in
+          rw e (f (Some j) (omega (arith, h.0), omega (arith, h.1), h.2, λ k a b. h.3 k (omega arith) b))
+      here false e None h f = absurd (false≢true (sym e ∙ h i (omega arith) (omega arith)))
+      here false e (Some j) h f = rw e (ap Some (same (ltb i j) refl))
+        where
+          same : (b : Bool) → ltb i j ≡ b → j ≡ i
+          same true q = absurd (false≢true (sym e ∙ h.3 i (omega arith) (ltb-true i j q)))
+          same false q = let l : j ≤ i = ltb-false i j q in omega (arith, h.0)
 
-  seeking_end : Seeking n test i → n ≤ i → i ≡ first_not n 0 test
-  unfolding first_not
-  seeking_end s h = let e : n - i ≡ 0 = omega arith in rw e at s.left
+-- a search along a list, of which the numbers are the places
+searched : {A : Type 0} (xs : List A) (d : A) (t : A → Bool) (i : ℕ) (s : ℕ → Bool) → ((j : ℕ) → j < length xs → s (i + j) ≡ not (t (get_or xs j d)))
+    → position_from t i xs ≡ first_not (length xs) i s
+unfolding first_not
+searched [] d t i s h = refl
+searched (x ∷ xs) d t i s h =
+    let z : i + 0 ≡ i = omega arith in
+    here (t x) refl (rw z at (h 0 (omega arith)))
+    (searched xs d t (i + 1) s (λ j l. let y : i + 1 + j ≡ i + suc j = omega arith in rw y (h (suc j) (omega arith))))
+  where
+    here : (b : Bool) → t x ≡ b → s i ≡ not (t x) → position_from t (i + 1) xs ≡ first_not (length xs) (i + 1) s → position_from t i (x ∷ xs) ≡ first_not (suc (length xs)) i s
+    here true e f g = rw (f, e) refl
+    here false e f g = rw (f, e) g
 
--- ---- priorities
+pub list_searched : {A : Type 0} (xs : List A) (d : A) (t : A → Bool) (n : ℕ) (s : ℕ → Bool) → length xs ≡ n → ((j : ℕ) → j < n → s j ≡ not (t (get_or xs j d)))
+    → position t xs ≡ first_not n 0 s
+list_searched xs d t n s l h =
+    position_from-zero t xs
+    ∙ (rw l at (searched xs d t 0 s (λ j k. let z : 0 + j ≡ j = omega arith in rw z (h j (omega arith)))))
 
-module _ (p : List ℕ) (priority : ℕ) {both : ℕ} where
-  pub group_high : both ≡ at p (priority / 2) → priority % 2 ≡ 0 → both / 16 ≡ group_of p priority
-  group_high e h = simp (e, eq-eqb (priority % 2) 0 h)
+pub entries_searched : (p : List ℕ) (t : List ℕ → Bool) (s : ℕ → Bool) → ((i : ℕ) → i < entry_count p → s i ≡ not (t (get_or (entries p) i [])))
+    → position t (entries p) ≡ first_not (entry_count p) 0 s
+entries_searched p t s h = list_searched (entries p) [] t (entry_count p) s (entries_length p) h
 
-  pub group_low : both ≡ at p (priority / 2) → (priority % 2 ≡ 0 → ⊥) → both % 16 ≡ group_of p priority
-  group_low e h = simp (e, ne_eqb (priority % 2) 0 h)
-
-module _ (p : List ℕ) {i g : ℕ} {b : Bool} where
-  pub priority_bad : Seeking 8 (good_priority p) i → i < 8 → g ≡ group_of p i → b ≡ good_group g → not b ≡ true → i ≡ bad_priority p
-  unfolding good_priority bad_priority
-  priority_bad s h e f n = seeking_found s h (ap good_group (sym e) ∙ sym f ∙ not-true b n)
-
-  pub priority_more : Seeking 8 (good_priority p) i → i < 8 → g ≡ group_of p i → b ≡ good_group g → not b ≡ false → Seeking 8 (good_priority p) (i + 1)
-  unfolding good_priority
-  priority_more s h e f n = seeking_more s h (ap good_group (sym e) ∙ sym f ∙ not-false b n)
-
-pub priority_end : (p : List ℕ) {i : ℕ} → Seeking 8 (good_priority p) i → 8 ≤ i → i ≡ bad_priority p
-unfolding bad_priority
-priority_end p s h = seeking_end s h
+pub first_within : (n i : ℕ) (test : ℕ → Bool) → IfSome (first_not n i test) (λ j. j < i + n)
+unfolding first_not
+first_within zero i test = tt
+first_within (suc n) i test = here (test i) refl (first_within n (i + 1) test)
+  where
+    here : (b : Bool) → test i ≡ b → IfSome (first_not n (i + 1) test) (λ j. j < i + 1 + n) → IfSome (first_not (suc n) i test) (λ j. j < i + suc n)
+    here true e h = let z : i + suc n ≡ i + 1 + n = omega arith in rw (z, e) h
+    here false e h = rw e (omega arith)
 
 -- ---- entries
 
-new_is : (p : List ℕ) (i : ℕ) → new_name p i ≡ not (first_entry p i below i)
-unfolding new_name first_entry other_entry
-new_is p i = sym (all_pass i (λ j. not (same_name p i p j)))
-
-module _ (p : List ℕ) {i : ℕ} where
-  pub foreign_found : {b : Bool} → Seeking (entry_count p) (is_ours p) i → i < entry_count p → b ≡ is_ours p i → not b ≡ true → i ≡ foreign_entry p
-  unfolding foreign_entry
-  foreign_found {b} s h e n = seeking_found s h (sym e ∙ not-true b n)
-
-  pub foreign_more : {b : Bool} → Seeking (entry_count p) (is_ours p) i → i < entry_count p → b ≡ is_ours p i → not b ≡ false → Seeking (entry_count p) (is_ours p) (i + 1)
-  foreign_more {b} s h e n = seeking_more s h (sym e ∙ not-false b n)
-
-  pub foreign_end : Seeking (entry_count p) (is_ours p) i → entry_count p ≤ i → i ≡ foreign_entry p
-  unfolding foreign_entry
-  foreign_end s h = seeking_end s h
-
-  pub second_found : {j : ℕ} → Seeking (entry_count p) (new_name p) i → i < entry_count p → j ≡ first_entry p i → j < i → i ≡ second_entry p
-  unfolding second_entry
-  second_found {j} s h e l = seeking_found s h (new_is p i ∙ rw (← e, lt-ltb j i l))
-
-  pub second_more : {j : ℕ} → Seeking (entry_count p) (new_name p) i → i < entry_count p → j ≡ first_entry p i → i ≤ j → Seeking (entry_count p) (new_name p) (i + 1)
-  second_more {j} s h e l = seeking_more s h (new_is p i ∙ rw (← e, le-ltb j i l))
-
-  pub second_end : Seeking (entry_count p) (new_name p) i → entry_count p ≤ i → i ≡ second_entry p
-  unfolding second_entry
-  second_end s h = seeking_end s h
-
-  pub selector_found : {x : ℕ} → Seeking (entry_count p) (low_selector p) i → i < entry_count p → x ≡ selector_of p i → 2 ≤ x → i ≡ high_selector p
-  unfolding high_selector low_selector
-  selector_found {x} s h e l = seeking_found s h (rw (← e) (le-ltb x 2 l))
-
-  pub selector_more : {x : ℕ} → Seeking (entry_count p) (low_selector p) i → i < entry_count p → x ≡ selector_of p i → x < 2 → Seeking (entry_count p) (low_selector p) (i + 1)
-  unfolding low_selector
-  selector_more {x} s h e l = seeking_more s h (rw (← e) (lt-ltb x 2 l))
-
-  pub selector_end : Seeking (entry_count p) (low_selector p) i → entry_count p ≤ i → i ≡ high_selector p
-  unfolding high_selector
-  selector_end s h = seeking_end s h
-
-module _ (p : List ℕ) (i : ℕ) {j : ℕ} where
-  pub first_found : {b : Bool} → Seeking i (other_entry p i) j → j < i → b ≡ same_name p i p j → b ≡ true → j ≡ first_entry p i
-  unfolding first_entry other_entry
-  first_found s h e t = seeking_found s h (ap not (sym e ∙ t))
-
-  pub first_more : {b : Bool} → Seeking i (other_entry p i) j → j < i → b ≡ same_name p i p j → b ≡ false → Seeking i (other_entry p i) (j + 1)
-  unfolding other_entry
-  first_more s h e t = seeking_more s h (ap not (sym e ∙ t))
-
-  pub first_end : Seeking i (other_entry p i) j → i ≤ j → j ≡ first_entry p i
-  unfolding first_entry
-  first_end s h = seeking_end s h
-
--- ---- the first rule that fails
+not_not : (b : Bool) → b ≡ not (not b)
+not_not true = refl
+not_not false = refl
 
 module _ (p : List ℕ) where
-  pub groups_length : (length p ≡ 13 → ⊥) → Fault.Length (length p) 13 ≡ groups_fault p
-  unfolding groups_fault
-  groups_length h = simp (ne_eqb (length p) 13 h)
+  pub foreign_searched : position (λ e. not (is_ours e 0)) (entries p) ≡ foreign_entry p
+  unfolding foreign_entry
+  foreign_searched =
+      entries_searched p (λ e. not (is_ours e 0)) (is_ours p)
+      (λ i h. sym (own_same (entry_is p [] h)) ∙ not_not (is_ours (get_or (entries p) i []) 0))
 
-  module _ {k : ℕ} where
-    pub groups_group : {g : ℕ} → length p ≡ 13 → k ≡ bad_priority p → k < 8 → g ≡ group_of p k → Fault.Group k g ≡ groups_fault p
-    unfolding groups_fault
-    groups_group h e m q = let b : bad_priority p below 8 ≡ true = rw (← e) (lt-ltb k 8 m) in simp (eq-eqb (length p) 13 h, b, q, e)
+  pub foreign_within : IfSome (foreign_entry p) (λ i. i < entry_count p)
+  unfolding foreign_entry
+  foreign_within = let z : 0 + entry_count p ≡ entry_count p = omega arith in rw z at (first_within (entry_count p) 0 (is_ours p))
 
-    module _ {total : ℕ} where
-      pub groups_sum : length p ≡ 13 → k ≡ bad_priority p → 8 ≤ k → total ≡ sum (percentages p) → (total ≡ 100 → ⊥) → Fault.Sum total ≡ groups_fault p
-      unfolding groups_fault
-      groups_sum h e m s n =
-          let b : bad_priority p below 8 ≡ false = rw (← e) (le-ltb k 8 m) in
-          let c : sum (percentages p) is 100 ≡ false = rw (← s) (ne_eqb total 100 n) in
-          simp (eq-eqb (length p) 13 h, b, c, s)
+  pub high_searched : position (λ e. leb 2 (selector_of e 0)) (entries p) ≡ high_selector p
+  unfolding high_selector low_selector
+  high_searched =
+      entries_searched p (λ e. leb 2 (selector_of e 0)) (λ i. selector_of p i below 2)
+      (λ i h. rw (← selector_same (entry_is p [] h)) (low (selector_of (get_or (entries p) i []) 0)))
+    where
+      low : (x : ℕ) → x below 2 ≡ not (leb 2 x)
+      low x = grind (arith, nat_tests)
 
-      module _ {x : ℕ} where
-        pub groups_classes : length p ≡ 13 → k ≡ bad_priority p → 8 ≤ k → total ≡ sum (percentages p) → total ≡ 100 → x ≡ at p 12 → 8 < x → Fault.Classes x ≡ groups_fault p
-        unfolding groups_fault
-        groups_classes h e m s t f l =
-            let b : bad_priority p below 8 ≡ false = rw (← e) (le-ltb k 8 m) in
-            let c : sum (percentages p) is 100 ≡ true = rw (← s) (eq-eqb total 100 t) in
-            let d : at p 12 atmost 8 ≡ false = rw (← f) (lt-leb x 8 l) in
-            simp (eq-eqb (length p) 13 h, b, c, d, f)
+  pub high_within : IfSome (high_selector p) (λ i. i < entry_count p)
+  unfolding high_selector
+  high_within = let z : 0 + entry_count p ≡ entry_count p = omega arith in rw z at (first_within (entry_count p) 0 (low_selector p))
 
-        pub groups_none : length p ≡ 13 → k ≡ bad_priority p → 8 ≤ k → total ≡ sum (percentages p) → total ≡ 100 → x ≡ at p 12 → x ≤ 8 → Fault.None ≡ groups_fault p
-        unfolding groups_fault
-        groups_none h e m s t f l =
-            let b : bad_priority p below 8 ≡ false = rw (← e) (le-ltb k 8 m) in
-            let c : sum (percentages p) is 100 ≡ true = rw (← s) (eq-eqb total 100 t) in
-            let d : at p 12 atmost 8 ≡ true = rw (← f) (le-leb x 8 l) in
-            simp (eq-eqb (length p) 13 h, b, c, d)
+-- ---- the walk over the entries: each before i has a new name, and those from i on decide
 
-  pub flow_length : (length p ≡ 2 → ⊥) → Fault.Length (length p) 2 ≡ flow_fault p
-  unfolding flow_fault
-  flow_length h = simp (ne_eqb (length p) 2 h)
+pub record Seeking (p : List ℕ) (i : ℕ) : Type 0 where
+  pub within : i ≤ entry_count p
+  pub left : first_not (entry_count p - i) i (new_name p) ≡ second_entry p
 
-  module _ {x : ℕ} where
-    pub flow_classes : length p ≡ 2 → x ≡ at p 1 → 8 < x → Fault.Classes x ≡ flow_fault p
-    unfolding flow_fault
-    flow_classes h e l = let c : at p 1 atmost 8 ≡ false = rw (← e) (lt-leb x 8 l) in simp (eq-eqb (length p) 2 h, c, e)
+pub seeking_start : (p : List ℕ) → Seeking p 0
+unfolding second_entry
+seeking_start p = let e : entry_count p - 0 ≡ entry_count p = omega arith in record { within = omega arith; left = rw e refl }
 
-    module _ {m w : ℕ} where
-      pub flow_ones : length p ≡ 2 → x ≡ at p 1 → x ≤ 8 → m ≡ at p 0 → w ≡ ones 8 m → x < w → Fault.Ones w x ≡ flow_fault p
-      unfolding flow_fault
-      flow_ones h e l f g k =
-          let c : at p 1 atmost 8 ≡ true = rw (← e) (le-leb x 8 l) in
-          let d : ones 8 (at p 0) atmost at p 1 ≡ false = rw (← e, ← f, ← g) (lt-leb w x k) in
-          simp (eq-eqb (length p) 2 h, c, d, g, f, e)
+seeking_here : {p : List ℕ} {i : ℕ} → Seeking p i → i < entry_count p
+    → (if new_name p i then first_not (entry_count p - (i + 1)) (i + 1) (new_name p) else Some i) ≡ second_entry p
+unfolding first_not
+seeking_here {p} {i} s h = let e : entry_count p - i ≡ suc (entry_count p - (i + 1)) = omega arith in rw e at s.left
 
-      pub flow_none : length p ≡ 2 → x ≡ at p 1 → x ≤ 8 → m ≡ at p 0 → w ≡ ones 8 m → w ≤ x → Fault.None ≡ flow_fault p
-      unfolding flow_fault
-      flow_none h e l f g k =
-          let c : at p 1 atmost 8 ≡ true = rw (← e) (le-leb x 8 l) in
-          let d : ones 8 (at p 0) atmost at p 1 ≡ true = rw (← e, ← f, ← g) (le-leb w x k) in
-          simp (eq-eqb (length p) 2 h, c, d)
+module _ {p : List ℕ} {es : List (List ℕ)} {i : ℕ} (s : Seeking p i) (all : es ≡ entries p) where
+  module _ (m : i < length es) {r : Option ℕ} (e : r ≡ position (λ o. same_name (get_or es i []) 0 o 0) (take i es)) where
+    before : r ≡ first_not i 0 (other_entry p i)
+    unfolding other_entry
+    before =
+        e
+        ∙ list_searched (take i es) [] (λ o. same_name (get_or es i []) 0 o 0) i (λ j. not (same_name p i p j)) (length-take-le i es (omega arith))
+        (λ j k. rw (get_or-take i es j [] k) (ap not (sym (name_same (met_is p all m) (met_is p all (omega arith))))))
 
-  pub entries_ragged : (length p % 6 ≡ 0 → ⊥) → Fault.Ragged (length p) ≡ applications_fault p
-  unfolding applications_fault
-  entries_ragged h = simp (ne_eqb (length p % 6) 0 h)
+    new_is : new_name p i ≡ is_none r
+    unfolding new_name other_entry
+    new_is = sym (all_pass i 0 (λ j. not (same_name p i p j))) ∙ ap is_none (sym before)
 
-  module _ {a : ℕ} where
-    pub entries_foreign : length p % 6 ≡ 0 → a ≡ foreign_entry p → a < entry_count p → Fault.Foreign (a + 1) ≡ applications_fault p
-    unfolding applications_fault
-    entries_foreign h e l =
-        let f : foreign_entry p below entry_count p ≡ true = rw (← e) (lt-ltb a (entry_count p) l) in
-        simp (eq-eqb (length p % 6) 0 h, f, e)
+    pub seeking_found : {j : ℕ} → r ≡ Some j → Some (Fault.Again (j + 1) (i + 1)) ≡ again p
+    unfolding again first_entry
+    seeking_found {j} q =
+        let b : new_name p i ≡ false = new_is ∙ ap is_none q in
+        let f : Some i ≡ second_entry p = rw b at (seeking_here s (met_within p all m)) in
+        let g : first_entry p i ≡ j = rw (← before, q) refl in
+        rw (← f, g) refl
 
-    pub entries_many : length p % 6 ≡ 0 → a ≡ foreign_entry p → entry_count p ≤ a → 16 < entry_count p → Fault.Entries (entry_count p) ≡ applications_fault p
-    unfolding applications_fault
-    entries_many h e l m =
-        let f : foreign_entry p below entry_count p ≡ false = rw (← e) (le-ltb a (entry_count p) l) in
-        simp (eq-eqb (length p % 6) 0 h, f, lt-ltb 16 (entry_count p) m)
+    pub seeking_more : r ≡ None → Seeking p (i + 1)
+    seeking_more q =
+        let h : i < entry_count p = met_within p all m in
+        let b : new_name p i ≡ true = new_is ∙ ap is_none q in
+        record { within = omega arith; left = rw b at (seeking_here s h) }
 
-    module _ {b : ℕ} where
-      pub entries_again : {c : ℕ} → length p % 6 ≡ 0 → entry_count p ≤ 16 → a ≡ foreign_entry p → entry_count p ≤ a → b ≡ second_entry p → b < entry_count p → c ≡ first_entry p b
-          → Fault.Again (c + 1) (b + 1) ≡ applications_fault p
-      unfolding applications_fault
-      entries_again h m e l i k q =
-          let f : foreign_entry p below entry_count p ≡ false = rw (← e) (le-ltb a (entry_count p) l) in
-          let s : second_entry p below entry_count p ≡ true = rw (← i) (lt-ltb b (entry_count p) k) in
-          simp (eq-eqb (length p % 6) 0 h, le-ltb 16 (entry_count p) m, f, s, q, i)
+  pub seeking_end : length es ≤ i → None ≡ again p
+  unfolding again first_not
+  seeking_end m =
+      let h : entry_count p ≤ i = met_all p all m in
+      let e : entry_count p - i ≡ 0 = omega arith in
+      let f : None ≡ second_entry p = rw e at s.left in
+      rw (← f) refl
 
-      module _ {d : ℕ} where
-        pub entries_selector : {x : ℕ} → length p % 6 ≡ 0 → entry_count p ≤ 16 → a ≡ foreign_entry p → entry_count p ≤ a → b ≡ second_entry p → entry_count p ≤ b
-            → d ≡ high_selector p → d < entry_count p → x ≡ selector_of p d → Fault.Selector (d + 1) x ≡ applications_fault p
-        unfolding applications_fault
-        entries_selector h m e l i k j n q =
-            let f : foreign_entry p below entry_count p ≡ false = rw (← e) (le-ltb a (entry_count p) l) in
-            let s : second_entry p below entry_count p ≡ false = rw (← i) (le-ltb b (entry_count p) k) in
-            let t : high_selector p below entry_count p ≡ true = rw (← j) (lt-ltb d (entry_count p) n) in
-            simp (eq-eqb (length p % 6) 0 h, le-ltb 16 (entry_count p) m, f, s, t, q, j)
+-- ---- the selector of an entry that is found
 
-        pub entries_none : length p % 6 ≡ 0 → entry_count p ≤ 16 → a ≡ foreign_entry p → entry_count p ≤ a → b ≡ second_entry p → entry_count p ≤ b
-            → d ≡ high_selector p → entry_count p ≤ d → Fault.None ≡ applications_fault p
-        unfolding applications_fault
-        entries_none h m e l i k j n =
-            let f : foreign_entry p below entry_count p ≡ false = rw (← e) (le-ltb a (entry_count p) l) in
-            let s : second_entry p below entry_count p ≡ false = rw (← i) (le-ltb b (entry_count p) k) in
-            let t : high_selector p below entry_count p ≡ false = rw (← j) (le-ltb d (entry_count p) n) in
-            simp (eq-eqb (length p % 6) 0 h, le-ltb 16 (entry_count p) m, f, s, t)
-
--- ---- of each feature
-
-module _ (f : Feature) (p : List ℕ) {r : Fault} where
-  pub fault_groups : f ≡ Groups → r ≡ groups_fault p → r ≡ fault_of f p
-  unfolding fault_of
-  fault_groups e h = h ∙ rw e
-
-  pub fault_flow : f ≡ Flow → r ≡ flow_fault p → r ≡ fault_of f p
-  unfolding fault_of
-  fault_flow e h = h ∙ rw e
-
-  pub fault_applications : f ≡ Applications → r ≡ applications_fault p → r ≡ fault_of f p
-  unfolding fault_of
-  fault_applications e h = h ∙ rw e
+pub selector_at : (p : List ℕ) (i : ℕ) (d : List ℕ) → i < entry_count p → selector_of (get_or (entries p) i d) 0 ≡ selector_of p i
+selector_at p i d h = selector_same (entry_is p d h)

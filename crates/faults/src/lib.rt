@@ -1,16 +1,16 @@
 // Why a local setting is refused with 9: the first of document 01's rules that its parameters break, with the numbers that say so.
 #![tactic(auto)]
 
-ghost use Rattle.std.specs.Prelude.{◌≡◌, ◌<◌, ◌≤◌};
-ghost use Rattle.parameters.specs.Parameters.{group_of, entry_count};
-ghost use Rattle.faults.specs.Faults.{bad_priority, foreign_entry, first_entry, second_entry, high_selector, groups_fault, flow_fault, applications_fault, fault_of};
+ghost use Rattle.std.specs.Prelude.{◌≡◌, ◌<◌, IfSome, position, length};
+ghost use Rattle.parameters.specs.Parameters.{group_of, entry_count, same_name};
+ghost use Rattle.faults.specs.Faults.{bad_priority, foreign_entry, again, high_selector, groups_fault, flow_fault, applications_fault, fault_of};
 
+use applications::Entry;
 use parameters::Feature;
 
 // What is wrong. Entries are counted from 1, priorities from 0.
-#[derive(Clone, Copy)]
+#[derive(Clone, Copy, Debug, PartialEq, Eq)]
 pub enum Fault {
-    None,
     // How many octets there are, and are due.
     Length(usize, usize),
     // How many octets there are, which are no whole entries.
@@ -44,148 +44,120 @@ fn group_of(p: &[u8], priority: usize) -> u8
     both % 16
 }
 
-// The first priority whose group is 8 to 14, and 8 where none is.
-fn bad_priority(p: &[u8]) -> usize
+// The first priority whose group is 8 to 14.
+fn bad_priority(p: &[u8]) -> Option<usize>
     ensures { result ≡ bad_priority p.now }
 {
-    let mut i: usize = 0;
-    while i < 8 {
-        if !parameters::groups::good_group(group_of(p, i)) {
-            return i;
-        }
-        i += 1;
-    }
-    i
+    (0..8).find(|i| !parameters::groups::good_group(group_of(p, *i)))
 }
 
-fn groups(p: &[u8]) -> Fault
+#[tactic(auto, unfolding(crate::specs::Faults::groups_fault))]
+fn groups(p: &[u8]) -> Option<Fault>
     ensures { result ≡ groups_fault p.now }
 {
     let n = p.len();
     if n != 13 {
-        return Fault::Length(n, 13);
+        return Some(Fault::Length(n, 13));
     }
-    let priority = bad_priority(p);
-    if priority < 8 {
-        return Fault::Group(priority, group_of(p, priority));
+    if let Some(priority) = bad_priority(p) {
+        return Some(Fault::Group(priority, group_of(p, priority)));
     }
     let sum = parameters::groups::sum(&p[4..12]);
     if sum != 100 {
-        return Fault::Sum(sum);
+        return Some(Fault::Sum(sum));
     }
-    let classes = octets::octet(p, 12);
+    let classes = p[12];
     if 8 < classes {
-        return Fault::Classes(classes);
+        return Some(Fault::Classes(classes));
     }
-    Fault::None
+    None
 }
 
-fn flow(p: &[u8]) -> Fault
+#[tactic(auto, unfolding(crate::specs::Faults::flow_fault))]
+fn flow(p: &[u8]) -> Option<Fault>
     ensures { result ≡ flow_fault p.now }
 {
     let n = p.len();
     if n != 2 {
-        return Fault::Length(n, 2);
+        return Some(Fault::Length(n, 2));
     }
-    let classes = octets::octet(p, 1);
+    let classes = p[1];
     if 8 < classes {
-        return Fault::Classes(classes);
+        return Some(Fault::Classes(classes));
     }
-    let ones = parameters::flow::ones(octets::octet(p, 0));
+    let ones = parameters::flow::ones(p[0]);
     if classes < ones {
-        return Fault::Ones(ones, classes);
+        return Some(Fault::Ones(ones, classes));
     }
-    Fault::None
+    None
 }
 
-// The place of the first entry that is not ours, and the number of entries where all are.
-fn foreign_entry(p: &[u8]) -> usize
-    ensures { result ≡ foreign_entry p.now }
+// The place of the first entry that is not ours.
+fn foreign_entry(p: &[u8]) -> Option<usize>
+    ensures place { result ≡ foreign_entry p.now }
+    ensures within { IfSome result (λ i. i < entry_count p.now) }
 {
-    let n = p.len() / 6;
-    let mut i: usize = 0;
-    while i < n {
-        if !applications::is_ours(p, i) {
-            return i;
-        }
-        i += 1;
-    }
-    i
+    applications::entries(p)
+        .iter()
+        .position(|e| !applications::is_ours(e))
 }
 
-// The place of the first entry with the selector and id of entry i, which may be i itself.
-fn first_entry(p: &[u8], i: usize) -> usize
-    requires { i < entry_count p.now }
-    ensures { (result ≡ first_entry p.now i) × (result ≤ i) }
+// The place of the first of some entries with the selector and id of another.
+fn same_entry(before: &[Entry], e: &Entry) -> Option<usize>
+    ensures place { result ≡ position (λ o. same_name e.now 0 o 0) before.now }
+    ensures within { IfSome result (λ i. i < length before.now) }
 {
-    let mut j: usize = 0;
-    while j < i {
-        if applications::same_name(p, i, p, j) {
-            return j;
-        }
-        j += 1;
-    }
-    j
+    before.iter().position(|o| applications::same_name(e, o))
 }
 
-// The place of the first entry whose selector and id an entry before it has, and the number of entries where none is.
-fn second_entry(p: &[u8]) -> usize
-    ensures { result ≡ second_entry p.now }
+// The first entry whose selector and id an entry before it has, with the first such.
+fn again(p: &[u8]) -> Option<Fault>
+    ensures { result ≡ again p.now }
 {
-    let n = p.len() / 6;
-    let mut i: usize = 0;
-    while i < n {
-        if first_entry(p, i) < i {
-            return i;
+    let all = applications::entries(p);
+    for (i, e) in all.iter().enumerate() {
+        if let Some(first) = same_entry(&all[..i], e) {
+            return Some(Fault::Again(first + 1, i + 1));
         }
-        i += 1;
     }
-    i
+    None
 }
 
-// The place of the first entry whose selector is 2 or 3, and the number of entries where none is.
-fn high_selector(p: &[u8]) -> usize
-    ensures { result ≡ high_selector p.now }
+// The place of the first entry whose selector is 2 or 3.
+fn high_selector(p: &[u8]) -> Option<usize>
+    ensures place { result ≡ high_selector p.now }
+    ensures within { IfSome result (λ i. i < entry_count p.now) }
 {
-    let n = p.len() / 6;
-    let mut i: usize = 0;
-    while i < n {
-        if 2 <= applications::selector_of(p, i) {
-            return i;
-        }
-        i += 1;
-    }
-    i
+    applications::entries(p)
+        .iter()
+        .position(|e| 2 <= applications::selector_of(e))
 }
 
-fn applications(p: &[u8]) -> Fault
+#[tactic(auto, using(applications::specs::EntriesLaws::entries_length, crate::specs::FaultsLaws::selector_at), unfolding(crate::specs::Faults::applications_fault))]
+fn applications(p: &[u8]) -> Option<Fault>
     ensures { result ≡ applications_fault p.now }
 {
-    let length = p.len();
-    if length % 6 != 0 {
-        return Fault::Ragged(length);
+    let n = p.len();
+    if n % 6 != 0 {
+        return Some(Fault::Ragged(n));
     }
-    let n = length / 6;
-    let foreign = foreign_entry(p);
-    if foreign < n {
-        return Fault::Foreign(foreign + 1);
+    if let Some(i) = foreign_entry(p) {
+        return Some(Fault::Foreign(i + 1));
     }
-    if 16 < n {
-        return Fault::Entries(n);
+    let all = applications::entries(p);
+    if 16 < all.len() {
+        return Some(Fault::Entries(all.len()));
     }
-    let second = second_entry(p);
-    if second < n {
-        return Fault::Again(first_entry(p, second) + 1, second + 1);
+    if let Some(fault) = again(p) {
+        return Some(fault);
     }
-    let high = high_selector(p);
-    if high < n {
-        return Fault::Selector(high + 1, applications::selector_of(p, high));
-    }
-    Fault::None
+    let i = high_selector(p)?;
+    Some(Fault::Selector(i + 1, applications::selector_of(&all[i])))
 }
 
 // The first fault of parameters as a local setting; none exactly where they are valid.
-pub fn fault_of(f: Feature, p: &[u8]) -> Fault
+#[tactic(auto, unfolding(crate::specs::Faults::fault_of))]
+pub fn fault_of(f: Feature, p: &[u8]) -> Option<Fault>
     ensures { result ≡ fault_of f p.now }
 {
     match f {

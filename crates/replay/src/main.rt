@@ -17,11 +17,11 @@ struct Replayed(Replay);
 
 impl Course for Replayed {
     fn feed(&mut self, octets: &[u8]) {
-        self.0 = tally::feed(self.0, octets);
+        self.0.feed(octets);
     }
 
     fn lines(&self) -> u64 {
-        let t = self.0.tally;
+        let t = &self.0.value;
         t.from_a.wrapping_add(t.from_b).wrapping_add(t.others)
     }
 
@@ -29,9 +29,9 @@ impl Course for Replayed {
         false
     }
 
-    fn report(&self, page: &mut Output) {
+    fn report(self, page: &mut Output) {
         let mut text = [0; 4096];
-        let n = tally::text::report(tally::finish(self.0), &mut text);
+        let n = tally::text::report(self.0.finish(), &mut text);
         page.text(octets::first(&text, n));
     }
 }

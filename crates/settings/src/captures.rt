@@ -14,7 +14,7 @@ pub trait Course {
     fn is_over(&self) -> bool;
 
     // Puts what came of the capture, which is at its end or over.
-    fn report(&self, page: &mut Output);
+    fn report(self, page: &mut Output);
 }
 
 // Feeds what comes behind the settings, read by read, and writes what came of it, unless a read has failed. A proved loop ends: no

@@ -1,6 +1,9 @@
 // The settings of ports, four lines each, three for Rev 1.0, which make a recorder; and programs that begin with settings.
 #![tactic(auto)]
 
+ghost use Rattle.std.specs.Prelude.{◌≡◌, IfOk, is_some};
+ghost use Rattle.tlv.specs.Revisions.{has_applications};
+
 pub mod captures;
 pub mod program;
 pub mod wrong;
@@ -152,7 +155,9 @@ fn read_setting(input: &mut Input, due: Part, ports: bool, of: u8) -> Result<Set
 }
 
 // The lines behind the control, applications for Rev 1.01 alone.
-fn read_rest(input: &mut Input, control: Head, ports: bool) -> Result<Settings, Wrong> {
+fn read_rest(input: &mut Input, control: Head, ports: bool) -> Result<Settings, Wrong>
+    ensures { IfOk result (λ s. is_some s.applications ≡ has_applications s.control.revision) }
+{
     let port = addressing::port_meant(control.port);
     let groups = read_setting(input, Part::Groups, ports, port)?;
     let flow = read_setting(input, Part::Flow, ports, port)?;
@@ -170,7 +175,9 @@ fn read_rest(input: &mut Input, control: Head, ports: bool) -> Result<Settings, 
 }
 
 // Reads the lines of a port, up to one that cannot be read. Lines may begin with their port only where `ports` says so.
-pub fn read_port(input: &mut Input, ports: bool) -> Result<Settings, Wrong> {
+pub fn read_port(input: &mut Input, ports: bool) -> Result<Settings, Wrong>
+    ensures { IfOk result (λ s. is_some s.applications ≡ has_applications s.control.revision) }
+{
     let control = read_control(input, ports)?;
     read_rest(input, control, ports)
 }
@@ -189,7 +196,9 @@ fn but_again(wrong: Wrong, seen: &[bool; 256]) -> Wrong {
 }
 
 // Reads the lines of a port that had none before.
-fn read_new_port(input: &mut Input, seen: &[bool; 256]) -> Result<Settings, Wrong> {
+fn read_new_port(input: &mut Input, seen: &[bool; 256]) -> Result<Settings, Wrong>
+    ensures { IfOk result (λ s. is_some s.applications ≡ has_applications s.control.revision) }
+{
     let control = read_control(input, true).map_err(|wrong| but_again(wrong, seen))?;
     let read = read_rest(input, control, true);
     if !seen[usize::from(addressing::port_meant(control.port))] {
@@ -295,7 +304,9 @@ fn check(s: Settings) -> Result<(), Wrong> {
 }
 
 // Reads the settings of one end. `alone` says that nothing may stand behind them.
-pub fn read_single(input: &mut Input, alone: bool) -> Result<Settings, Wrong> {
+pub fn read_single(input: &mut Input, alone: bool) -> Result<Settings, Wrong>
+    ensures { IfOk result (λ s. is_some s.applications ≡ has_applications s.control.revision) }
+{
     let end = read_port(input, false)?;
     check_end(input, alone)?;
     check(end)?;

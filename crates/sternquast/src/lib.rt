@@ -4,9 +4,7 @@
 ghost use Rattle.std.specs.Prelude.{◌≡◌};
 ghost use Rattle.sternquast.specs.Judge.{judged};
 
-use contents::Reading;
-
-// A refusal's number of document 01 and its place in the frame; both 0 where there is none.
+// A refusal's number and its place in the frame; both 0 where there is none. Numbers, and no Result: this is the C interface.
 #[repr(C)]
 #[derive(Clone, Copy)]
 pub struct Verdict {
@@ -18,17 +16,14 @@ pub struct Verdict {
 pub fn sternquast_judge(frame: &[u8]) -> Verdict
     ensures { result ≡ judged frame.now }
 {
-    let read = reading::read(frame);
-    match read {
-        Reading::Refused(why, place) => {
-            let refusal = tlv::refusal_number(why) as u32;
-            return Verdict { refusal, place };
-        }
-        Reading::Accepted(_) => {
-            return Verdict {
-                refusal: 0,
-                place: 0,
-            };
-        }
+    match reading::read(frame) {
+        Ok(_) => Verdict {
+            refusal: 0,
+            place: 0,
+        },
+        Err(rejected) => Verdict {
+            refusal: u32::from(u8::from(rejected.why)),
+            place: rejected.place,
+        },
     }
 }
