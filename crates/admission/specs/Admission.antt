@@ -1,9 +1,9 @@
 -- 01, Handling a frame: what a frame's control does, steps 1 to 3, and what a frame that is refused does.
-use Rattle.std.specs.Prelude.{ℕ, Bool, true, false, not, ◌&&◌, ◌||◌, List, if◌then◌else◌}
+use Rattle.std.specs.Prelude.{ℕ, Bool, true, false, not, ◌&&◌, ◌||◌, List, if◌then◌else◌, None, Some, Err}
 use Rattle.octets.specs.Words.{◌is◌}
 use Rattle.octets.specs.Octets.{at, number4}
 use Rattle.tlv.specs.declared.Refusal.{Refusal}
-use Rattle.tlv.specs.Refusals.{refusal_number}
+use Rattle.tlv.specs.Refusals.{refusal_number, rejection}
 use Rattle.contents.specs.declared.Contents.{Contents}
 use Rattle.contents.specs.Contents.{value_of}
 use Rattle.parameters.specs.declared.Feature.{Feature}
@@ -14,10 +14,8 @@ use Rattle.notices.specs.declared.Kind.TheVariants as kind
 use Rattle.port.specs.declared.Control.{Control}
 use Rattle.port.specs.declared.Port.{Port}
 use Rattle.port.specs.declared.Event.{Event}
-use Rattle.port.specs.declared.Answer.TheVariants as answer
 use Rattle.port.specs.declared.Notices.{Notices}
-use Rattle.port.specs.declared.Raised.{Raised}
-use Rattle.port.specs.declared.Raised.TheVariants as raised
+use Rattle.port.specs.Types.{Raised}
 use Rattle.port.specs.Parts.{with_control}
 
 -- What a frame with one readable control has: its versions, its numbers, and the three features.
@@ -53,7 +51,7 @@ numbered oper m c = record { max = c.max; oper = oper; seq = c.seq; ack = m.seq;
 
 -- a notice of the port when a mark goes from off to on
 abbrev pub newly_marked : Kind → Bool → Bool → Raised
-newly_marked k before after = if not before && after then raised.Notice k else raised.Nothing
+newly_marked k before after = if not before && after then Some k else None
 
 -- 01: "A refusal returns its number alone and changes nothing". 02, E1: "refusals 7 and 8 write notice 1 (port) if the port's new mark is off,
 -- and set it; any other outcome of a frame .. clears it. .. a refusal changes nothing but this mark and notice". The mark says that the
@@ -67,13 +65,13 @@ with_broken p b =
     with_control p (record { max = c.max; oper = c.oper; seq = c.seq; ack = c.ack; rcvd = c.rcvd; seen = c.seen; duplicate = c.duplicate; broken = b })
 
 abbrev pub alone : Raised → Notices
-alone x = record { port = x; groups = raised.Nothing; flow = raised.Nothing; applications = raised.Nothing }
+alone x = record { port = x; groups = None; flow = None; applications = None }
 
 -- a frame that is refused. 02, E2: "Everything above the reader passes it on", the place beside the number
 unfoldable pub rejected : Refusal → ℕ → Port → Event
 rejected why place p =
     record {
-      answer = answer.Refused why place;
+      answer = Err (rejection why place);
       port = with_broken p (breaks why);
       notices = alone (newly_marked kind.ControlError p.control.broken (breaks why));
     }

@@ -1,6 +1,6 @@
 -- Which frames a port takes, the way that a frame takes, and a frame that is refused: laws for each way out of the functions. Assumes
 -- nothing.
-use Rattle.std.specs.Prelude.{ℕ, ◌+◌, ◌-◌, ◌<◌, ◌≤◌, Bool, true, false, not, ◌≡◌, refl, List, take, drop, if◌then◌else◌}
+use Rattle.std.specs.Prelude.{ℕ, ◌+◌, ◌-◌, ◌<◌, ◌≤◌, Bool, true, false, not, ◌≡◌, refl, List, take, drop, if◌then◌else◌, Err, Ok}
 use Rattle.std.proofs.Math.Nat.{add-sub_cancel_left}
 use Rattle.std.proofs.Common.{arith, ◌∙◌, ap}
 use Rattle.std.proofs.Math.Path.{sym}
@@ -10,23 +10,19 @@ use Rattle.octets.specs.Octets.{at, number4}
 use Rattle.contents.specs.declared.Contents.{Contents}
 use Rattle.contents.specs.declared.Found.{Found}
 use Rattle.tlv.specs.declared.Refusal.{Refusal}
+use Rattle.tlv.specs.declared.Rejection.{Rejection}
 use Rattle.tlv.specs.declared.Refusal.TheVariants.{NotRunning, SeveralNeighbours}
-use Rattle.contents.specs.declared.Reading.{Reading}
-use Rattle.contents.specs.declared.Reading.TheVariants.{Refused, Accepted}
-use Rattle.tlv.specs.Refusals.{refusal_number}
+use Rattle.tlv.specs.Refusals.{rejection}
 use Rattle.reading.specs.Revisions.{read_for}
 use Rattle.reading.specs.Promises.{Inside, ReadsFor}
-use Rattle.contents.specs.Contents.{value_of}
+use Rattle.contents.specs.Contents.{Reading, value_of}
 use Rattle.turn.specs.declared.Course.{Course}
 use Rattle.turn.specs.declared.Course.TheVariants.{Twice, OtherVersion, Exchange}
 use Rattle.feature.specs.Outcome.{lower}
 use Rattle.admission.specs.declared.Heard.{Heard}
 use Rattle.port.specs.declared.Control.{Control}
 use Rattle.port.specs.declared.Port.{Port}
-use Rattle.port.specs.declared.Raised.{Raised}
-use Rattle.port.specs.declared.Raised.TheVariants as raised
-use Rattle.port.specs.declared.Answer.TheVariants as answer
-use Rattle.notices.specs.declared.Kind.{Kind}
+use Rattle.port.specs.Types.{Raised}
 use Rattle.notices.specs.declared.Kind.TheVariants.{ControlError}
 use Rattle.port.specs.Parts.{running}
 use Rattle.admission.specs.Admission.{Message, message, seen_twice, met, numbered, newly_marked, breaks, with_broken, alone, rejected}
@@ -35,17 +31,17 @@ use Rattle.admission.specs.Admission.{Message, message, seen_twice, met, numbere
 
 unfoldable pub admitted : Port → List ℕ → Reading
 admitted p o =
-    if not (running p) then Refused NotRunning 0
-    else if p.several then Refused SeveralNeighbours 0
+    if not (running p) then Err (rejection NotRunning 0)
+    else if p.several then Err (rejection SeveralNeighbours 0)
     else read_for p.revision o
 
 -- a frame that is taken lies inside the octets, and the port runs
 pub record Admits (p : Port) (o : List ℕ) (r : Reading) : Type 0 where
   pub answers : r ≡ admitted p o
-  pub inside : (c : Contents) → r ≡ Accepted c → Inside o c
-  pub runs : (c : Contents) → r ≡ Accepted c → running p ≡ true
+  pub inside : (c : Contents) → r ≡ Ok c → Inside o c
+  pub runs : (c : Contents) → r ≡ Ok c → running p ≡ true
 
-refused_admits : {p : Port} {o : List ℕ} {why : Refusal} {i : ℕ} → Refused why i ≡ admitted p o → Admits p o (Refused why i)
+refused_admits : {p : Port} {o : List ℕ} {r : Rejection} → Err r ≡ admitted p o → Admits p o (Err r)
 refused_admits e =
     record {
       answers = e;
@@ -54,24 +50,24 @@ refused_admits e =
     }
 
 module _ (p : Port) (o : List ℕ) {b : Bool} (e : b ≡ running p) where
-  pub admit_stopped : not b ≡ true → Admits p o (Refused NotRunning 0)
+  pub admit_stopped : {r : Rejection} → not b ≡ true → r ≡ rejection NotRunning 0 → Admits p o (Err r)
   unfolding admitted
-  admit_stopped t = refused_admits (rw (← e, t) refl)
+  admit_stopped t f = refused_admits (rw (f, ← e, t) refl)
 
   module _ (t : not b ≡ false) where
-    pub admit_several : p.several ≡ true → Admits p o (Refused SeveralNeighbours 0)
+    pub admit_several : {r : Rejection} → p.several ≡ true → r ≡ rejection SeveralNeighbours 0 → Admits p o (Err r)
     unfolding admitted
-    admit_several u = refused_admits (rw (← e, t, u) refl)
+    admit_several u f = refused_admits (rw (f, ← e, t, u) refl)
 
     pub admit_read : {r : Reading} → p.several ≡ false → ReadsFor p.revision o r → Admits p o r
     unfolding admitted
     admit_read u h = record { answers = h.is ∙ rw (← e, t, u) refl; inside = h.inside; runs = λ c q. sym e ∙ not-false b t }
 
 -- what the calls on the way need of a frame that is accepted
-pub admits_accepted : {p : Port} {o : List ℕ} {r : Reading} {c : Contents} → Admits p o r → r ≡ Accepted c → Admits p o (Accepted c)
+pub admits_accepted : {p : Port} {o : List ℕ} {r : Reading} {c : Contents} → Admits p o r → r ≡ Ok c → Admits p o (Ok c)
 admits_accepted a e = rw (← e) a
 
-module _ {p : Port} {o : List ℕ} {c : Contents} (a : Admits p o (Accepted c)) where
+module _ {p : Port} {o : List ℕ} {c : Contents} (a : Admits p o (Ok c)) where
   pub accepted_inside : Inside o c
   accepted_inside = a.inside c refl
 
@@ -132,30 +128,9 @@ heard_seq o c k = by (course_of o c k)
     by OtherVersion = refl
     by Exchange = refl
 
--- ---- the notice of the port
-
-module _ (k : Kind) (b a : Bool) where
-  pub marked_before : b ≡ true → raised.Nothing ≡ newly_marked k b a
-  marked_before t = rw t refl
-
-  pub marked_now : b ≡ false → a ≡ true → raised.Notice k ≡ newly_marked k b a
-  marked_now t u = rw (t, u) refl
-
-  pub marked_not : b ≡ false → a ≡ false → raised.Nothing ≡ newly_marked k b a
-  marked_not t u = rw (t, u) refl
-
 -- ---- a frame that is refused
 
-module _ (why : Refusal) {n : ℕ} (e : n ≡ refusal_number why) where
-  pub breaks_length : n ≡ 7 → true ≡ breaks why
-  unfolding breaks
-  breaks_length t = simp (← e, t)
-
-  pub breaks_version : (n ≡ 7 → ⊥) → (n is 8) ≡ breaks why
-  unfolding breaks
-  breaks_version t = simp (← e, ne_eqb n 7 t)
-
 pub reject_is : (why : Refusal) (place : ℕ) (p : Port) {b : Bool} {x : Raised} → b ≡ breaks why → x ≡ newly_marked ControlError p.control.broken b
-    → record { answer = answer.Refused why place; port = with_broken p b; notices = alone x } ≡ rejected why place p
+    → record { answer = Err (rejection why place); port = with_broken p b; notices = alone x } ≡ rejected why place p
 unfolding rejected
 reject_is why place p eb ex = rw (ex, eb) refl

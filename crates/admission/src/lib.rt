@@ -9,8 +9,8 @@ ghost use Rattle.admission.specs.AdmissionLaws.{Admits, heard_of};
 
 use contents::{Contents, Found, Reading};
 use notices::Kind;
-use port::{Answer, Control, Event, Notices, Port, Raised};
-use tlv::Refusal;
+use port::{Control, Event, Notices, Port, Raised};
+use tlv::{Refusal, Rejection};
 use turn::Course;
 
 // Reads a frame that arrived, if the port takes it.
@@ -18,13 +18,12 @@ pub fn admit(p: Port, s: &[u8]) -> Reading
     ensures { Admits p s.now result }
 {
     if !port::writing::running(p) {
-        return Reading::Refused(Refusal::NotRunning, 0);
+        return Err(Rejection::from(Refusal::NotRunning));
     }
     if p.several {
-        return Reading::Refused(Refusal::SeveralNeighbours, 0);
+        return Err(Rejection::from(Refusal::SeveralNeighbours));
     }
-    let revision = p.revision;
-    reading::read_for(revision, s)
+    reading::read_for(p.revision, s)
 }
 
 // A sub-TLV's value, as a part of the frame. Here and in `hear` the `requires` is what `admit` ensures of a frame that is accepted.
@@ -32,9 +31,7 @@ pub fn part(s: &[u8], found: Found) -> &[u8]
     requires { found.start + found.length ≤ length s.now }
     ensures { result.now ≡ value_of s.now found }
 {
-    let start = found.start;
-    let end = start + found.length;
-    &s[start..end]
+    &s[found.start..found.start + found.length]
 }
 
 // The way that the frame takes, and the control after steps 1 to 3.
@@ -61,7 +58,7 @@ pub fn hear(s: &[u8], c: Contents, k: Control) -> Heard
     }
     let value = part(s, found);
     let oper = octets::octet(value, 0);
-    let low = feature::lower(k.max, octets::octet(value, 1));
+    let low = k.max.min(octets::octet(value, 1));
     next.oper = low;
     next.duplicate = false;
     if oper != low {
@@ -82,44 +79,35 @@ pub fn hear(s: &[u8], c: Contents, k: Control) -> Heard
 pub fn newly_marked(kind: Kind, before: bool, after: bool) -> Raised
     ensures { result ≡ newly_marked kind before after }
 {
-    if before {
-        return Raised::Nothing;
-    }
-    if after {
-        return Raised::Notice(kind);
-    }
-    Raised::Nothing
+    (!before & after).then_some(kind)
 }
 
 // Whether a refusal says that the frame's control is broken.
+#[tactic(auto, unfolding(crate::specs::Admission::breaks, tlv::specs::Refusals::refusal_number))]
 fn breaks(why: Refusal) -> bool
     ensures { result ≡ breaks why }
 {
-    let n = tlv::refusal_number(why);
-    if n == 7 {
-        return true;
-    }
-    n == 8
+    matches!(why, Refusal::ControlLength | Refusal::ControlVersion)
 }
 
 // A frame that is refused changes nothing but the mark of a broken control and its notice (02, E1); 3 to 8 come with the reader's
 // place.
-pub fn reject(why: Refusal, place: usize, p: Port) -> Event
-    ensures { result ≡ rejected why place p }
+pub fn reject(r: Rejection, p: Port) -> Event
+    ensures { result ≡ rejected r.why r.place p }
 {
     let k = p.control;
-    let broken = breaks(why);
+    let broken = breaks(r.why);
     let x = newly_marked(Kind::ControlError, k.broken, broken);
     let mut next = p;
     next.control.broken = broken;
     Event {
-        answer: Answer::Refused(why, place),
+        answer: Err(r),
         port: next,
         notices: Notices {
             port: x,
-            groups: Raised::Nothing,
-            flow: Raised::Nothing,
-            applications: Raised::Nothing,
+            groups: None,
+            flow: None,
+            applications: None,
         },
     }
 }

@@ -1,222 +1,150 @@
 // Events at a port of a recorder, a line each, and their answers.
 #![tactic(auto)]
 
-use addressing::PortWord;
 use faults::Fault;
-use feature::Switches;
 use lines::{Kind, Line};
-use logging::Took;
 use notices::Log;
 use parameters::Feature;
-use port::{Answer, Event, Flag, Port, Written};
+use port::{Answer, Event, Port};
+use printing::{Output, Page};
 use recorder::Change;
 use tlv::Refusal;
 
-// The refusal of an invalid setting (01, Refusal numbers).
-const INVALID: u8 = 9;
-
-// What an event leaves: the port at hand and the log, and the place behind its answer.
+// What an event leaves: the port at hand and the log.
 #[derive(Clone, Copy)]
 pub struct Step {
     pub port: Port,
     pub log: Log,
-    pub at: usize,
 }
 
 // The first line of an answer, behind which so many notice lines follow.
-fn first_line(out: &mut [u8], at: usize, a: Answer, follow: u8) -> usize {
+fn first_line(page: &mut Output, a: Answer, follow: u8) {
     match a {
-        Answer::Refused(r, place) => report::answers::refused_at(out, at, r, place, follow),
-        Answer::Done(send) => report::answers::done(out, at, send, follow),
+        Ok(send) => report::answers::done(page, send, follow),
+        Err(r) => report::answers::refused_at(page, r, follow),
     }
 }
 
 // The answer, and the notices that the event raised.
-pub fn answered(out: &mut [u8], at: usize, w: PortWord, e: Event) -> usize {
-    let answer = e.answer;
-    let follow = report::answers::raised_count(e.notices);
-    let behind = first_line(out, at, answer, follow);
-    if follow == 0 {
-        return behind;
+pub fn answered(page: &mut Output, port: Option<u8>, e: Event) {
+    first_line(page, e.answer, report::answers::raised_count(e.notices));
+    report::answers::raised(page, port, e.notices);
+}
+
+// Why a setting change is refused as invalid, where it is. Only one that names a feature is.
+fn invalid(a: Answer, change: Change, octets: &[u8]) -> Option<Fault> {
+    let Err(r) = a else {
+        return None;
+    };
+    let Change::Setting(number, _) = change else {
+        return None;
+    };
+    let Ok(feature) = Feature::try_from(number) else {
+        return None;
+    };
+    if r.why != Refusal::InvalidSetting {
+        return None;
     }
-    let end = report::answers::raised(out, behind, e.notices);
-    report::ports::others(out, at, end, w.given, w.number)
+    faults::fault_of(feature, octets)
 }
 
-fn port_flag(f: lines::Flag) -> Flag {
-    match f {
-        lines::Flag::Admin => Flag::Admin,
-        lines::Flag::Receive => Flag::Receive,
-        lines::Flag::Transmit => Flag::Transmit,
-        lines::Flag::Several => Flag::Several,
+// What happens at a port. The refusal of a setting says why it is invalid.
+fn happen(
+    page: &mut Output,
+    port: Option<u8>,
+    p: Port,
+    l: Log,
+    change: Change,
+    octets: &[u8],
+) -> Step {
+    let n = addressing::port_meant(port);
+    let e = recorder::apply(n, p, change, octets);
+    match invalid(e.answer, change, octets) {
+        Some(fault) => report::errors::invalid(page, fault),
+        None => answered(page, port, e),
     }
-}
-
-// What a line that is answered with `done` or `refused` does at its port.
-fn change_of(k: Kind) -> Change {
-    match k {
-        Kind::Gone => Change::PeerGone,
-        Kind::Flag(f, on) => Change::Flag(port_flag(f), on),
-        Kind::Setting {
-            number,
-            advertise,
-            enable,
-            willing,
-        } => {
-            let w = Switches {
-                advertise: advertise,
-                enable: enable,
-                willing: willing,
-            };
-            Change::Setting(number, w)
-        }
-        _ => Change::Frame,
-    }
-}
-
-fn change(n: u8, p: Port, l: Line) -> Event {
-    let kind = l.kind;
-    recorder::apply(n, p, change_of(kind), octets::first(&l.octets, l.n))
-}
-
-fn changed(out: &mut [u8], at: usize, w: PortWord, l: Log, e: Event) -> Step {
-    let port = e.port;
-    let log = logging::keep(l, w.number, e.notices);
     Step {
-        port: port,
-        log: log,
-        at: answered(out, at, w, e),
+        port: e.port,
+        log: logging::keep(l, n, e.notices),
     }
 }
 
-fn is_invalid(a: Answer) -> bool {
-    match a {
-        Answer::Refused(r, _) => tlv::refusal_number(r) == INVALID,
-        Answer::Done(_) => false,
-    }
-}
-
-// The feature with a number; any other number is refused before its parameters are looked at.
-fn feature_of(number: u8) -> Feature {
-    if number == 2 {
-        return Feature::Groups;
-    }
-    if number == 3 {
-        return Feature::Flow;
-    }
-    Feature::Applications
-}
-
-fn fault(number: u8, l: Line) -> Fault {
-    faults::fault_of(feature_of(number), octets::first(&l.octets, l.n))
-}
-
-// A setting change. Its refusal says why the setting is invalid.
-fn set(out: &mut [u8], at: usize, w: PortWord, p: Port, l: Log, number: u8, line: Line) -> Step {
-    let e = change(w.number, p, line);
-    let answer = e.answer;
-    if is_invalid(answer) {
-        return Step {
-            port: p,
-            log: l,
-            at: report::errors::invalid(out, at, fault(number, line)),
-        };
-    }
-    changed(out, at, w, l, e)
-}
-
-fn taken(out: &mut [u8], at: usize, x: Took) -> usize {
-    match x {
-        Took::Notice(n) => report::answers::notice(out, at, n),
-        Took::Refused(r) => report::answers::refused(out, at, r),
-    }
-}
-
-fn take(out: &mut [u8], at: usize, n: u8, p: Port, l: Log) -> Step {
+fn take(page: &mut Output, n: u8, p: Port, l: Log) -> Step {
     let t = logging::take(n, l);
-    let log = t.log;
-    let answer = t.answer;
+    match t.answer {
+        Ok(notice) => report::answers::notice(page, notice),
+        Err(why) => report::answers::refused(page, why),
+    }
     Step {
         port: p,
-        log: log,
-        at: taken(out, at, answer),
+        log: t.log,
     }
 }
 
-// Writes the frame into an output of `room` octets, or of all where there are fewer.
-fn write_into(n: u8, p: Port, out: &mut [u8], room: usize) -> Written {
-    if room < out.len() {
-        return recorder::write(n, p, &mut out[..room]);
-    }
-    recorder::write(n, p, out)
-}
-
-// The frame that a request to write gives, or its refusal.
-fn write(out: &mut [u8], at: usize, n: u8, p: Port, room: usize) -> usize {
+// The frame that a request to write into so much room gives, or its refusal.
+fn write(page: &mut Output, n: u8, p: Port, room: usize) {
     let mut space = [0; 1000];
-    let w = write_into(n, p, &mut space, room);
-    match w {
-        Written::Octets(k) => report::answers::frame(out, at, octets::first(&space, k)),
-        Written::Refused(r) => report::answers::refused(out, at, r),
+    let end = room.min(1000);
+    match recorder::write(n, p, &mut space[..end]) {
+        Ok(k) => report::answers::frame(page, octets::first(&space, k)),
+        Err(why) => report::answers::refused(page, why),
     }
 }
 
 // The state of a port, or the refusal of a number that names none.
-fn show(out: &mut [u8], at: usize, w: PortWord, p: Port, l: Log) -> usize {
-    let n = w.number;
-    if n < 1 {
-        return report::answers::refused(out, at, Refusal::NoPort);
+fn show(page: &mut Output, port: Option<u8>, p: &Port, l: &Log) {
+    let n = addressing::port_meant(port);
+    if !logging::is_port(n) {
+        report::answers::refused(page, Refusal::NoPort);
+        return;
     }
-    if 4 < n {
-        return report::answers::refused(out, at, Refusal::NoPort);
-    }
-    let end = report::states::show(out, at, p, l, n);
-    report::ports::others(out, at, end, w.given, n)
+    let mut lines = Page::new();
+    report::states::show(&mut lines, p, l, n);
+    report::ports::others(page, port, lines.as_slice());
 }
 
-// A line that leaves the recorder as it is.
-fn tell(out: &mut [u8], at: usize, w: PortWord, p: Port, l: Log, number: u64, k: Kind) -> usize {
-    match k {
-        Kind::Write(room) => write(out, at, w.number, p, room),
-        Kind::Show => show(out, at, w, p, l),
-        Kind::Unreadable(why) => report::errors::unread(out, at, false, number, w.given, why),
-        _ => at,
+// The event that a line says. A line of the settings has no answer.
+fn answer(page: &mut Output, port: Option<u8>, p: Port, l: Log, line: &Line) -> Step {
+    let n = addressing::port_meant(port);
+    let octets = line.octets.as_slice();
+    let same = Step { port: p, log: l };
+    match line.kind {
+        Kind::Take => take(page, n, p, l),
+        Kind::Frame => happen(page, port, p, l, Change::Frame, octets),
+        Kind::Write(room) => {
+            write(page, n, p, room);
+            same
+        }
+        Kind::Show => {
+            show(page, port, &p, &l);
+            same
+        }
+        kind => match judgement::told_by(kind) {
+            Some(change) => happen(page, port, p, l, change, octets),
+            None => same,
+        },
     }
 }
 
 // The event on one line, which is the line with a number: what it says behind its port, which is `p`. A line that is passed
 // over has no answer.
 pub fn event(
-    out: &mut [u8],
-    at: usize,
-    w: PortWord,
+    page: &mut Output,
+    port: Option<u8>,
     p: Port,
     l: Log,
     number: u64,
     said: &[u8],
 ) -> Step {
-    if !w.given & addressing::is_passed_over(said) {
-        return Step {
-            port: p,
-            log: l,
-            at: at,
-        };
+    let same = Step { port: p, log: l };
+    if port.is_none() && addressing::is_passed_over(said) {
+        return same;
     }
-    let line = script::parse_event(said);
-    let kind = line.kind;
-    match kind {
-        Kind::Take => take(out, at, w.number, p, l),
-        Kind::Setting {
-            number: feature,
-            ..
-        } => set(out, at, w, p, l, feature, line),
-        Kind::Frame | Kind::Gone | Kind::Flag(_, _) => {
-            changed(out, at, w, l, change(w.number, p, line))
+    match script::parse_event(said) {
+        Ok(line) => answer(page, port, p, l, &line),
+        Err(why) => {
+            report::errors::unread(page, false, number, port, why);
+            same
         }
-        _ => Step {
-            port: p,
-            log: l,
-            at: tell(out, at, w, p, l, number, kind),
-        },
     }
 }

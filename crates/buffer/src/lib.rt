@@ -57,6 +57,11 @@ impl<'a> Writer<'a> {
         }
     }
 
+    // The lower two octets of a number, high octet first.
+    pub fn put2(&mut self, n: usize) {
+        self.put_all(&[(n / 256 % 256) as u8, (n % 256) as u8]);
+    }
+
     // A number, high octet first.
     pub fn put4(&mut self, n: u32) {
         self.put_all(&n.to_be_bytes());

@@ -9,19 +9,17 @@ use mathlib.Core.List.{List, [], ◌∷◌}
 use lib.ListN.{length, take, drop, length-take, length-drop}
 use lib.Seq.{get_or-take, get_or-drop, drop-drop}
 use borrow.Author.Tests.{lt-ltb, le-ltb, le-leb, leb-true, eq-eqb, ne_eqb, eqb-true, eqb-false}
-use Rattle.std.specs.Prelude.{if◌then◌else◌}
+use Rattle.std.specs.Prelude.{if◌then◌else◌, Ok, Err}
 use Rattle.octets.specs.Words.{◌below◌, ◌atmost◌, ◌is◌}
 use Rattle.octets.specs.Octets.{at, same}
 use Rattle.octets.specs.Laws.{and_left}
 use Rattle.tlv.specs.declared.Refusal.TheVariants.{NotDcbx, WrongLength, PastEnd, ControlLength, ControlVersion}
 use Rattle.contents.specs.declared.Found.{Found}
 use Rattle.contents.specs.declared.Contents.{Contents}
-use Rattle.contents.specs.declared.Reading.{Reading}
-use Rattle.contents.specs.declared.Reading.TheVariants.{Refused, Accepted}
-use Rattle.tlv.specs.Refusals.{refusal_number}
+use Rattle.tlv.specs.Refusals.{refusal_number, rejection}
 use Rattle.reading.specs.Reading.{Walked, onward, walk_from, walked, judged_control, read_frame}
 use Rattle.tlv.specs.Layout.{fixed_octets, type_at, length_at, is_dcbx}
-use Rattle.contents.specs.Contents.{counts, found_again, noted, no_contents, value_of, head_of}
+use Rattle.contents.specs.Contents.{Reading, counts, found_again, noted, no_contents, value_of, head_of}
 use Rattle.tlv.specs.Laws.{head_end, head_past, head_whole}
 use Rattle.reading.proofs.ReadingLaws.{walked_inside}
 use Rattle.calls.specs.Calls.{frame}
@@ -164,12 +162,12 @@ unfolding walked
 row5 o = (walk_ends o (length o) 6 no_contents (omega arith)).past
 
 abbrev pub read_number : Reading → ℕ
-read_number (Refused why place) = refusal_number why
-read_number (Accepted c) = 0
+read_number (Err r) = refusal_number r.why
+read_number (Ok c) = 0
 
 abbrev pub read_place : Reading → ℕ
-read_place (Refused why place) = place
-read_place (Accepted c) = 0
+read_place (Err r) = r.place
+read_place (Ok c) = 0
 
 -- a number of the table, and the place beside it
 pub record Reads (o : List ℕ) (x : Reading) (n : ℕ) : Type 0 where
@@ -188,15 +186,15 @@ module _ (o : List ℕ) (c : Contents) (inside : c.control.start + c.control.len
       let l : length v ≡ c.control.length = omega (arith, ap length e, length-take c.control.length (drop c.control.start o), length-drop c.control.start o) in
       simp (ne_eqb c.control.count 0 (omega arith), le-ltb 1 c.control.count (omega arith), ← l) (by (length v is 10) refl)
     where
-      above : (b : Bool) → Reads o (if b then Refused ControlVersion (head_of c.control) else Accepted c) (if b then 8 else 0)
+      above : (b : Bool) → Reads o (if b then Err (rejection ControlVersion (head_of c.control)) else Ok c) (if b then 8 else 0)
       above true = record { number = refl; place = p refl }
       above false = record { number = refl; place = refl }
 
       by : (b : Bool) → (length v is 10) ≡ b →
           Reads o
-          (if not b then Refused ControlLength (head_of c.control)
-          else if at o (c.control.start + 1) below at o c.control.start then Refused ControlVersion (head_of c.control)
-          else Accepted c)
+          (if not b then Err (rejection ControlLength (head_of c.control))
+          else if at o (c.control.start + 1) below at o c.control.start then Err (rejection ControlVersion (head_of c.control))
+          else Ok c)
           (if not b then 7 else if at v 1 below at v 0 then 8 else 0)
       by false k = record { number = refl; place = p refl }
       by true k =
@@ -227,7 +225,7 @@ module _ (o : List ℕ) where
   found = walk_ends o (length o) 6 no_contents (omega arith)
 
   -- over the tests of 5, of 4 and of 3
-  by_past : (b : Bool) → Reads o (if b then Refused PastEnd (walked o).place else judged_control o (walked o).contents) (if b then 5 else of_controls)
+  by_past : (b : Bool) → Reads o (if b then Err (rejection PastEnd (walked o).place) else judged_control o (walked o).contents) (if b then 5 else of_controls)
   unfolding walked refusal_number place_beside
   by_past true = record { number = refl; place = found.place }
   by_past false =
@@ -235,7 +233,7 @@ module _ (o : List ℕ) where
 
   by_length : (b : Bool) →
       Reads o
-      (if not b then Refused WrongLength 0 else if (walked o).past then Refused PastEnd (walked o).place else judged_control o (walked o).contents)
+      (if not b then Err (rejection WrongLength 0) else if (walked o).past then Err (rejection PastEnd (walked o).place) else judged_control o (walked o).contents)
       (if not b then 4 else if (walked o).past then 5 else of_controls)
   unfolding refusal_number place_beside
   by_length false = record { number = refl; place = refl }
@@ -243,9 +241,9 @@ module _ (o : List ℕ) where
 
   by_dcbx : (b : Bool) → is_dcbx o ≡ b →
       Reads o
-      (if not b then Refused NotDcbx 0
-      else if not (length_at o 0 + 2 is length o) then Refused WrongLength 0
-      else if (walked o).past then Refused PastEnd (walked o).place
+      (if not b then Err (rejection NotDcbx 0)
+      else if not (length_at o 0 + 2 is length o) then Err (rejection WrongLength 0)
+      else if (walked o).past then Err (rejection PastEnd (walked o).place)
       else judged_control o (walked o).contents)
       (if not b then 3 else if not (length_at o 0 is length (drop 2 o)) then 4 else if (walked o).past then 5 else of_controls)
   unfolding refusal_number is_dcbx place_beside

@@ -1,4 +1,5 @@
 -- The log over any list of calls from the blank recorder on. Assumes nothing.
+use Rattle.parameters.specs.declared.Feature.{Feature}
 use Prim.Native.Nat.{ℕ, ◌+◌}
 use native.Mathlib.Omega.{arith}
 use mathlib.Core.Path.{◌≡◌, refl, sym, ap, ◌∙◌}
@@ -6,7 +7,7 @@ use mathlib.Core.Bool.{Bool, true, false, not, ◌&&◌, false≢true}
 use mathlib.Core.List.{List, [], ◌∷◌, ◌++◌, map, append-nil}
 use lib.ListN.{set}
 use borrow.Author.Tests.{ne_eqb, eqb-true, eqb-false, not-true}
-use Rattle.std.specs.Prelude.{if◌then◌else◌}
+use Rattle.std.specs.Prelude.{if◌then◌else◌, None, Some, Option}
 use Rattle.octets.specs.Words.{◌is◌}
 use Rattle.octets.specs.Laws.{and_left, and_right}
 use Rattle.tlv.specs.Refusals.{Reply, refusal_number}
@@ -16,8 +17,7 @@ use Rattle.notices.specs.Notices.{PortNumber, is_port, empty_log, notices_in, of
 use Rattle.notices.specs.LogModel.{Sound, Step, port_of, log_steps, model_steps, writes, takes_one, others, untaken, newest16}
 use Rattle.notices.specs.LogModel as log
 use Rattle.notices.proofs.LogLaws.{empty_sound, empty_holds, steps_hold, steps_sound, others_leave, log_append, writes_append, takings_append, log_writes, writes_in_lem, takings_none, shared_log}
-use Rattle.port.specs.declared.Raised.{Raised}
-use Rattle.port.specs.declared.Raised.TheVariants as raised_is
+use Rattle.port.specs.Types.{Raised}
 use Rattle.port.specs.declared.Notices.{Notices}
 use Rattle.events.specs.PortEvents.{listed, in_order}
 use Rattle.recorder.specs.declared.Recorder.{Recorder}
@@ -176,10 +176,10 @@ others_append n (p ∷ ps) qs e f =
     rw (and_left (not (port_of p is n)) (others n ps) e) (others_append n ps qs (and_right (not (port_of p is n)) (others n ps) e) f)
 
 module _ (m n : ℕ) (d : m ≡ n → ⊥) where
-  others_listed : (x : Raised) (feature : ℕ) (rest : List Notice) → others n (map log.write rest) ≡ true → others n (map log.write (listed m x feature rest)) ≡ true
+  others_listed : (x : Raised) (feature : Option Feature) (rest : List Notice) → others n (map log.write rest) ≡ true → others n (map log.write (listed m x feature rest)) ≡ true
   unfolding listed others
-  others_listed raised_is.Nothing feature rest e = e
-  others_listed (raised_is.Notice k) feature rest e = rw (ne_eqb m n d) e
+  others_listed None feature rest e = e
+  others_listed (Some k) feature rest e = rw (ne_eqb m n d) e
 
   others_raised : (x : Notices) → others n (map log.write (in_order m x)) ≡ true
   unfolding in_order others

@@ -6,11 +6,10 @@ use mathlib.Core.Bool.{Bool, true, false, not, beq}
 use mathlib.Core.List.{List, [], ◌∷◌}
 use lib.ListN.{length}
 use borrow.Author.Tests.{eqb-true, eqb-false}
-use Rattle.std.specs.Prelude.{if◌then◌else◌}
+use Rattle.std.specs.Prelude.{if◌then◌else◌, None, Ok, Err}
 use Rattle.octets.specs.Words.{◌is◌}
 use Rattle.tlv.specs.declared.Refusal.TheVariants.{NotRunning, SeveralNeighbours, InvalidSetting, UnknownFeature, NoPort}
-use Rattle.contents.specs.declared.Reading.{Reading}
-use Rattle.contents.specs.declared.Reading.TheVariants.{Refused, Accepted}
+use Rattle.contents.specs.Contents.{Reading}
 use Rattle.tlv.specs.Revisions.{has_applications}
 use Rattle.reading.specs.Revisions.{read_for}
 use Rattle.parameters.specs.declared.Feature.{Feature}
@@ -25,8 +24,7 @@ use Rattle.port.specs.declared.Event.{Event}
 use Rattle.port.specs.declared.Flag.{Flag}
 use Rattle.port.specs.declared.Flag.TheVariants.{Admin, Receive, Transmit, Several}
 use Rattle.port.specs.declared.Port.{Port}
-use Rattle.port.specs.declared.Raised.{Raised}
-use Rattle.port.specs.declared.Raised.TheVariants as raised
+use Rattle.port.specs.Types.{Raised}
 use Rattle.port.specs.declared.Versions.{Versions}
 use Rattle.port.specs.Parts.{with_control, release, with_flag, running}
 use Rattle.sending.specs.Sending.{with_seq, raises_seq_no, sent, fresh_port, step5, completed}
@@ -64,8 +62,8 @@ either_flag false true x y p q f s t e d = refl
 either_flag false false x y p q f s t e d = d
 
 either_setting : (a b : Bool) (p q s t : Port) → unmarked p ≡ unmarked q → unmarked s ≡ unmarked t
-    → unmarked (if a then if b then unchanged p else event raised.Nothing p s else refused InvalidSetting p).port
-    ≡ unmarked (if a then if b then unchanged q else event raised.Nothing q t else refused InvalidSetting q).port
+    → unmarked (if a then if b then unchanged p else event None p s else refused InvalidSetting p).port
+    ≡ unmarked (if a then if b then unchanged q else event None q t else refused InvalidSetting q).port
 either_setting false b p q s t e d = e
 either_setting true true p q s t e d = e
 either_setting true false p q s t e d = d
@@ -94,8 +92,8 @@ module _ (p : Port) where
           ≡ unmarked (if not a then rejected NotRunning 0 (unmarked p) else if b then rejected SeveralNeighbours 0 (unmarked p) else given o x (unmarked p)).port
       by false b x = refl
       by true true x = refl
-      by true false (Refused why place) = refl
-      by true false (Accepted c) = refl
+      by true false (Err r) = refl
+      by true false (Ok c) = refl
 
   gone_unmarked : unmarked (peer_gone p).port ≡ unmarked (peer_gone (unmarked p)).port
   unfolding peer_gone fresh_port

@@ -5,13 +5,12 @@ use mathlib.Core.Bool.{Bool, true, false, not, ◌&&◌, ◌||◌, beq, false≢
 use mathlib.Core.List.{List, [], ◌∷◌, ◌++◌}
 use lib.ListN.{length, drop, get_or, set}
 use borrow.Author.Tests.{eqb-false}
-use Rattle.std.specs.Prelude.{if◌then◌else◌}
+use Rattle.std.specs.Prelude.{if◌then◌else◌, None, Ok, Err}
 use Rattle.octets.specs.Words.{◌below◌, ◌is◌}
 use Rattle.octets.specs.Laws.{same_refl}
 use Rattle.tlv.specs.declared.Refusal.{Refusal}
 use Rattle.tlv.specs.declared.Refusal.TheVariants.{NotRunning, SeveralNeighbours, NotDcbx, WrongLength, PastEnd, NoControl, ControlLength, ControlVersion, InvalidSetting, ShortOutput, UnknownFeature, NoNotice, NoPort}
-use Rattle.contents.specs.declared.Reading.{Reading}
-use Rattle.contents.specs.declared.Reading.TheVariants as read
+use Rattle.contents.specs.Contents.{Reading}
 use Rattle.tlv.specs.Refusals.{Reply, refusal_number, refusal_at}
 use Rattle.tlv.specs.declared.Revision.{Revision}
 use Rattle.tlv.specs.declared.Revision.TheVariants.{Rev101, Rev10}
@@ -31,10 +30,8 @@ use Rattle.port.specs.declared.Event.{Event}
 use Rattle.port.specs.declared.Flag.{Flag}
 use Rattle.port.specs.declared.Notices.{Notices}
 use Rattle.port.specs.declared.Port.{Port}
-use Rattle.port.specs.declared.Raised.{Raised}
-use Rattle.port.specs.declared.Raised.TheVariants as raised
+use Rattle.port.specs.Types.{Raised}
 use Rattle.port.specs.declared.Versions.{Versions}
-use Rattle.port.specs.declared.Written.TheVariants as wrote
 use Rattle.port.specs.Parts.{feature_of, flag_of, running}
 use Rattle.port.specs.Replies.{event_reply, written_reply}
 use Rattle.port.specs.Writing as writing
@@ -51,7 +48,6 @@ use Rattle.handling.specs.Handling.{frame_event, accepted, given}
 use Rattle.handling.specs.Handling as handling
 use Rattle.recorder.specs.declared.Recorder.{Recorder}
 use Rattle.logging.specs.declared.Taken.{Taken}
-use Rattle.logging.specs.declared.Took.TheVariants as took
 use Rattle.logging.specs.Logging.{taken}
 use Rattle.recorder.specs.Recorder.{place_of, port_at, happens, changed, created, stored, written, output}
 use Rattle.calls.specs.Calls.{Operation, create, frame, gone, flag, setting, write, take, Call, event_of, raised_at, after_at, lent_to, lent_at, took_reply, reply_at}
@@ -153,8 +149,8 @@ module _ (op : Operation) (p : Port) where
   unfolding given accepted frame_event refusal_number place_beside
   told_frame h o false b x n e i = told_rejected h NotRunning 0 refl
   told_frame h o true true x n e i = told_rejected h SeveralNeighbours 0 refl
-  told_frame h o true false (read.Refused why place) n e i = rw (← e) (told_rejected h why place (i ∙ rw e refl))
-  told_frame h o true false (read.Accepted d) n e i = rw (← e) (told_event _ _)
+  told_frame h o true false (Err r) n e i = rw (← e) (told_rejected h r.why r.place (i ∙ rw e refl))
+  told_frame h o true false (Ok d) n e i = rw (← e) (told_event _ _)
 
   told_gone : is_frame op ≡ false → (a : Bool) (x : Raised) → Asks true op p (if not a then refused NotRunning p else event x p (fresh_port p)) (if not a then 1 else 0)
   unfolding refusal_number place_beside
@@ -169,7 +165,7 @@ module _ (op : Operation) (p : Port) where
       Asks true op p (if b then set_to f (setting_of f w o) p else refused InvalidSetting p) (if not b then 9 else 0)
   unfolding refusal_number place_beside set_to
   told_feature h f w o false = told_refused true (here_no (is_frame op) h) InvalidSetting refl refl
-  told_feature h f w o true = told_flag (same_setting (feature_of p f).setting (setting_of f w o)) raised.Nothing (setting_changed f (setting_of f w o) p)
+  told_feature h f w o true = told_flag (same_setting (feature_of p f).setting (setting_of f w o)) None (setting_changed f (setting_of f w o) p)
 
   -- over the tests "number is 2, 3, 4", and whether the port's revision has applications
   told_setting : is_frame op ≡ false → (w : Switches) (o : List ℕ) (a b c d : Bool) →
@@ -202,7 +198,7 @@ module _ (op : Operation) (p : Port) where
 -- a request to write, over its tests
 module _ (out after : List ℕ) (n : ℕ) where
   write_reply : (t a b : Bool) →
-      written_reply (if t then (if not a then wrote.Refused NotRunning else if b then wrote.Refused ShortOutput else wrote.Octets n) else wrote.Refused NoPort)
+      written_reply (if t then (if not a then Err NotRunning else if b then Err ShortOutput else Ok n) else Err NoPort)
       ≡ reply (if not t then 16 else if not a then 1 else if b then 10 else 0) (place_beside (if not t then 16 else if not a then 1 else if b then 10 else 0) (write out)) (n ∷ [])
   unfolding refusal_number reply place_beside
   write_reply false a b = refl
@@ -233,9 +229,9 @@ take_whole true false = refl
 module _ (n : ℕ) (l : Log) where
   abbrev pub took_by : Bool → Bool → Taken
   took_by t b =
-      if not t then record { answer = took.Refused NoPort; log = l }
-      else if b then record { answer = took.Refused NoNotice; log = l }
-      else record { answer = took.Notice (oldest_of n l); log = without_oldest n l }
+      if not t then record { answer = Err NoPort; log = l }
+      else if b then record { answer = Err NoNotice; log = l }
+      else record { answer = Ok (oldest_of n l); log = without_oldest n l }
 
   take-reply : (ports : List Port) (t b : Bool) →
       took_reply (took_by t b).answer
@@ -259,8 +255,8 @@ read_number_lem Rev101 o = refl
 read_number_lem Rev10 o = by (read_frame o)
   where
     by : (x : Reading) → read_number (skipping x) ≡ read_number x
-    by (read.Refused why place) = refl
-    by (read.Accepted c) = refl
+    by (Err r) = refl
+    by (Ok c) = refl
 
 read_place_lem : (r : Revision) (o : List ℕ) → read_place (read_for r o) ≡ read_place (read_frame o)
 unfolding read_for skipping
@@ -268,8 +264,8 @@ read_place_lem Rev101 o = refl
 read_place_lem Rev10 o = by (read_frame o)
   where
     by : (x : Reading) → read_place (skipping x) ≡ read_place x
-    by (read.Refused why place) = refl
-    by (read.Accepted c) = refl
+    by (Err r) = refl
+    by (Ok c) = refl
 
 -- what a creation takes for applications is valid, where it takes nothing: 02, E11
 taken_applications : (r : Revision) (o : Feature → List ℕ) →
@@ -345,7 +341,7 @@ module _ (r : Recorder) (n : ℕ) where
   unfolding in_order listed news_of
   news_in_order k p = by (is_broken k) p.control.broken
     where
-      by : (a b : Bool) → in_order n (if a then alone (newly_marked ControlError b true) else silent) ≡ (if a && not b then record { port = n; kind = ControlError; feature = 0 } ∷ [] else [])
+      by : (a b : Bool) → in_order n (if a then alone (newly_marked ControlError b true) else silent) ≡ (if a && not b then record { port = n; kind = ControlError; feature = None } ∷ [] else [])
       by true true = refl
       by true false = refl
       by false b = refl

@@ -3,7 +3,7 @@
 use Rattle.std.specs.Prelude.{ℕ, Bool, true, false, not, ◌≡◌, List, None}
 use Rattle.std.proofs.Common.{◌∙◌}
 use Rattle.std.proofs.Math.Path.{refl, ap}
-use borrow.Author.Tests.{not-true, not-false, eq-eqb, ne_eqb}
+use borrow.Author.Tests.{not-true, not-false, ne_eqb}
 use Rattle.tlv.specs.declared.Refusal.TheVariants.{InvalidSetting, UnknownFeature}
 use Rattle.parameters.specs.Parameters.{valid_local}
 use Rattle.tlv.specs.Revisions.{has_applications}
@@ -56,23 +56,9 @@ module _ (f : Feature) (w : Switches) (o : List ℕ) (p : Port) {b : Bool} {e : 
   change_valid t es er = er ∙ rw (es, ← eb, not-false b t) refl
 
 module _ (n : ℕ) (w : Switches) (o : List ℕ) (p : Port) {e : Event} where
-  pub change_groups : n ≡ 2 → e ≡ changed_feature Groups w o p → e ≡ changed_setting n w o p
+  pub change_unknown : (n ≡ 2 → ⊥) → (n ≡ 3 → ⊥) → (n ≡ 4 → ⊥) → e ≡ refused UnknownFeature p → e ≡ changed_setting n w o p
   unfolding changed_setting
-  change_groups t er = er ∙ rw (eq-eqb n 2 t) refl
-
-  module _ (n2 : n ≡ 2 → ⊥) where
-    pub change_flow : n ≡ 3 → e ≡ changed_feature Flow w o p → e ≡ changed_setting n w o p
-    unfolding changed_setting
-    change_flow t er = er ∙ rw (ne_eqb n 2 n2, eq-eqb n 3 t) refl
-
-    module _ (n3 : n ≡ 3 → ⊥) where
-      pub change_fourth : n ≡ 4 → e ≡ changed_applications w o p → e ≡ changed_setting n w o p
-      unfolding changed_setting
-      change_fourth t er = er ∙ rw (ne_eqb n 2 n2, ne_eqb n 3 n3, eq-eqb n 4 t) refl
-
-      pub change_unknown : (n ≡ 4 → ⊥) → e ≡ refused UnknownFeature p → e ≡ changed_setting n w o p
-      unfolding changed_setting
-      change_unknown n4 er = er ∙ rw (ne_eqb n 2 n2, ne_eqb n 3 n3, ne_eqb n 4 n4) refl
+  change_unknown n2 n3 n4 er = er ∙ rw (ne_eqb n 2 n2, ne_eqb n 3 n3, ne_eqb n 4 n4) refl
 
 module _ (w : Switches) (o : List ℕ) (p : Port) {b : Bool} (eb : b ≡ has_applications p.revision) {e : Event} where
   pub change_no_applications : not b ≡ true → e ≡ refused UnknownFeature p → e ≡ changed_applications w o p

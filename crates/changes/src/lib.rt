@@ -99,17 +99,13 @@ fn change_applications(p: Port, w: Switches, o: &[u8]) -> Event
 }
 
 // Changes the setting of the feature with a number; its parameters are given as octets (01, Handling a frame).
+#[tactic(auto, unfolding(crate::specs::Changes::changed_setting, parameters::specs::Parameters::feature_number))]
 pub fn change_setting(p: Port, number: u8, w: Switches, o: &[u8]) -> Event
     ensures { result ≡ changed_setting number w o.now p }
 {
-    if number == 2 {
-        return change_feature(p, Feature::Groups, w, o);
+    match Feature::try_from(number) {
+        Ok(Feature::Applications) => change_applications(p, w, o),
+        Ok(f) => change_feature(p, f, w, o),
+        Err(_) => events::refuse(Refusal::UnknownFeature, p),
     }
-    if number == 3 {
-        return change_feature(p, Feature::Flow, w, o);
-    }
-    if number == 4 {
-        return change_applications(p, w, o);
-    }
-    events::refuse(Refusal::UnknownFeature, p)
 }

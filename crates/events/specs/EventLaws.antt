@@ -1,9 +1,14 @@
 -- What an event gives, a law for each way out of the functions: premises in the form in which a test or a call leaves them.
 -- Assumes nothing.
-use Rattle.std.specs.Prelude.{ℕ, Bool, true, false, not, ◌&&◌, ◌||◌, ◌≡◌, refl, None, Ok}
-use borrow.Author.Tests.{eq-eqb, ne_eqb}
+use Rattle.std.specs.Prelude.{Bool, true, false, not, ◌&&◌, ◌||◌, ◌≡◌, refl, None, Ok}
 use Rattle.octets.specs.Words.{◌is◌}
+use denote.Enum.Bare.{sameb}
+use denote.Enum.Declared.{tag_of}
+use Rattle.std.proofs.Math.Dec.{eqb}
+use Rattle.std.proofs.Common.{◌∙◌}
+use Rattle.feature.specs.contracts.Reason.{the_type}
 use Rattle.feature.specs.declared.Reason.{Reason}
+use Rattle.feature.specs.declared.Reason.TheVariants as reason
 use Rattle.feature.specs.Reasons.{reason_number}
 use Rattle.port.specs.declared.Port.{Port}
 use Rattle.port.specs.Types.{Raised}
@@ -26,14 +31,30 @@ settled_is p eg ew ea = rw (eg, ew, ea, none (unsynced p.groups) (unsynced p.flo
 
 -- ---- notices
 
-module _ (r t : Reason) {m n : ℕ} (em : m ≡ reason_number r) (en : n ≡ reason_number t) where
-  pub becomes_same : m ≡ n → None ≡ becomes r t
-  unfolding becomes
-  becomes_same e = simp (← em, ← en, eq-eqb m n e)
+tag_is : (r : Reason) → tag_of the_type r ≡ reason_number r
+tag_is reason.NoPeerYet = refl
+tag_is reason.NotAdvertised = refl
+tag_is reason.Absent = refl
+tag_is reason.Duplicate = refl
+tag_is reason.Bad = refl
+tag_is reason.Waiting = refl
+tag_is reason.Disabled = refl
+tag_is reason.Agreed = refl
+tag_is reason.NotCompatible = refl
+tag_is reason.ControlTwice = refl
 
-  pub becomes_new : {x : Raised} → (m ≡ n → ⊥) → x ≡ noticed t → x ≡ becomes r t
+-- what `==` says of two reasons
+module _ (r t : Reason) {b : Bool} (e : b ≡ sameb the_type r t) where
+  alike : b ≡ (reason_number r is reason_number t)
+  alike = e ∙ (λ i. eqb (tag_is r i) (tag_is t i))
+
+  pub becomes_same : b ≡ true → None ≡ becomes r t
   unfolding becomes
-  becomes_new e h = simp (h, ← em, ← en, ne_eqb m n e)
+  becomes_same h = rw (← alike, h) refl
+
+  pub becomes_new : {x : Raised} → b ≡ false → x ≡ noticed t → x ≡ becomes r t
+  unfolding becomes
+  becomes_new h f = rw (← alike, h) f
 
 pub raises_is : (x : Raised) (p q : Port) {a b c d e f : Reason} {g w s : Raised} → a ≡ p.groups.outcome.reason → b ≡ q.groups.outcome.reason → g ≡ becomes a b
     → c ≡ p.flow.outcome.reason → d ≡ q.flow.outcome.reason → w ≡ becomes c d

@@ -49,7 +49,7 @@ fn noticed(r: Reason) -> Raised
 pub fn becomes(why: Reason, now: Reason) -> Raised
     ensures { result ≡ becomes why now }
 {
-    if feature::reason_number(why) == feature::reason_number(now) {
+    if why == now {
         return None;
     }
     noticed(now)

@@ -1,17 +1,17 @@
 -- What each call at a port does: refused ones change nothing but a frame's mark, a write leaves the port's frame on its way, and a frame that a sound
 -- port wrote is handled as its message. Assumes nothing.
+use Rattle.tlv.specs.Refusals.{rejection}
 use Prim.Native.Nat.{ℕ}
 use mathlib.Core.Path.{◌≡◌, refl, ap, ◌∙◌}
 use mathlib.Core.Bool.{Bool, true, false, not}
 use mathlib.Core.List.{List, ◌++◌}
 use lib.ListN.{length, take, drop}
 use lib.Seq.{take-append_seam}
-use Rattle.std.specs.Prelude.{if◌then◌else◌}
+use Rattle.std.specs.Prelude.{if◌then◌else◌, Ok, Err}
 use Rattle.octets.specs.Words.{◌below◌, ◌is◌}
 use Rattle.tlv.specs.declared.Refusal.{Refusal}
 use Rattle.tlv.specs.declared.Refusal.TheVariants as refusal
-use Rattle.contents.specs.declared.Reading.{Reading}
-use Rattle.contents.specs.declared.Reading.TheVariants.{Refused, Accepted}
+use Rattle.contents.specs.Contents.{Reading}
 use Rattle.contents.specs.declared.Contents.{Contents}
 use Rattle.contents.specs.declared.Found.{Found}
 use Rattle.tlv.specs.declared.Revision.{Revision}
@@ -26,8 +26,6 @@ use Rattle.feature.specs.Outcome.{Received, lower}
 use Rattle.turn.specs.Turn.{acknowledged, received}
 use Rattle.port.specs.declared.Port.{Port}
 use Rattle.port.specs.declared.Event.{Event}
-use Rattle.port.specs.declared.Written.TheVariants as wrote
-use Rattle.port.specs.declared.Answer.TheVariants as answer
 use Rattle.port.specs.Parts.{three, with_control, with_features, running}
 use Rattle.port.specs.Writing.{frame, written, output}
 use Rattle.sending.specs.Sending.{completed}
@@ -42,28 +40,28 @@ use Rattle.exchange.proofs.Frames as frames
 
 -- over the two tests: is the port running, is the output short
 write_by : (p : Port) (out : List ℕ) (n : ℕ) (a b : Bool) →
-    (if not a then wrote.Refused refusal.NotRunning else if b then wrote.Refused refusal.ShortOutput else wrote.Octets (length (frame p))) ≡ wrote.Octets n →
+    (if not a then Err refusal.NotRunning else if b then Err refusal.ShortOutput else Ok (length (frame p))) ≡ Ok n →
     take n (if not a then out else if b then out else frame p ++ drop (length (frame p)) out) ≡ frame p
 write_by p out n false b e = cc
 write_by p out n true true e = cc
 write_by p out n true false e = let k : length (frame p) ≡ n = cc in rw (← k) (take-append_seam (frame p) (drop (length (frame p)) out))
 
-pub write_leaves : (p : Port) (out : List ℕ) (n : ℕ) → written p out ≡ wrote.Octets n → take n (output p out) ≡ frame p
+pub write_leaves : (p : Port) (out : List ℕ) (n : ℕ) → written p out ≡ Ok n → take n (output p out) ≡ frame p
 unfolding written output
 write_leaves p out n e = write_by p out n (running p) (length out below length (frame p)) e
 
 -- ---- refused frames
 
 refused_by : (p : Port) (o : List ℕ) (why : Refusal) (place : ℕ) (a b : Bool) (x : Reading) →
-    (if not a then rejected refusal.NotRunning 0 p else if b then rejected refusal.SeveralNeighbours 0 p else given o x p).answer ≡ answer.Refused why place →
+    (if not a then rejected refusal.NotRunning 0 p else if b then rejected refusal.SeveralNeighbours 0 p else given o x p).answer ≡ Err (rejection why place) →
     (if not a then rejected refusal.NotRunning 0 p else if b then rejected refusal.SeveralNeighbours 0 p else given o x p).port ≡ with_broken p (breaks why)
 unfolding given accepted frame_event rejected
 refused_by p o why place false b x e = let k : refusal.NotRunning ≡ why = cc in ap (λ (y : Refusal). with_broken p (breaks y)) k
 refused_by p o why place true true x e = let k : refusal.SeveralNeighbours ≡ why = cc in ap (λ (y : Refusal). with_broken p (breaks y)) k
-refused_by p o why place true false (Refused y i) e = let k : y ≡ why = cc in ap (λ (y : Refusal). with_broken p (breaks y)) k
-refused_by p o why place true false (Accepted c) e = cc
+refused_by p o why place true false (Err r) e = let k : r.why ≡ why = cc in ap (λ (y : Refusal). with_broken p (breaks y)) k
+refused_by p o why place true false (Ok c) e = cc
 
-pub refused_marks : (p : Port) (o : List ℕ) (why : Refusal) (place : ℕ) → (handled p o).answer ≡ answer.Refused why place → (handled p o).port ≡ with_broken p (breaks why)
+pub refused_marks : (p : Port) (o : List ℕ) (why : Refusal) (place : ℕ) → (handled p o).answer ≡ Err (rejection why place) → (handled p o).port ≡ with_broken p (breaks why)
 unfolding handled
 refused_marks p o why place e = refused_by p o why place (running p) p.several (read_for p.revision o) e
 
@@ -73,7 +71,7 @@ unfoldable pub contents_for : Revision → Contents → Contents
 contents_for Rev101 c = c
 contents_for Rev10 c = without_applications c
 
-pub read_as : (v : Revision) (o : List ℕ) (c : Contents) → read_frame o ≡ Accepted c → read_for v o ≡ Accepted (contents_for v c)
+pub read_as : (v : Revision) (o : List ℕ) (c : Contents) → read_frame o ≡ Ok c → read_for v o ≡ Ok (contents_for v c)
 unfolding read_for skipping contents_for
 read_as Rev101 o c e = e
 read_as Rev10 o c e = ap skipping e

@@ -6,11 +6,10 @@ use mathlib.Core.Bool.{Bool, true, false}
 use mathlib.Core.List.{List, [], ◌++◌}
 use lib.ListN.{length, length-append}
 use borrow.Author.Tests.{eqb-true}
-use Rattle.std.specs.Prelude.{if◌then◌else◌}
+use Rattle.std.specs.Prelude.{if◌then◌else◌, Ok}
 use Rattle.octets.specs.Octets.{at, number4, octets4, headed, head}
 use Rattle.octets.specs.Laws.{and_left}
 use Rattle.contents.specs.declared.Contents.{Contents}
-use Rattle.contents.specs.declared.Reading.TheVariants.{Accepted}
 use Rattle.tlv.specs.Layout.{fixed_octets, frame_head}
 use Rattle.reading.specs.Reading.{walked, read_frame}
 use Rattle.contents.specs.Contents.{value_of}
@@ -101,7 +100,7 @@ module _ (q : Port) (h : SoundPort q) where
   abbrev pub contents : Contents
   contents = (walked (frame q)).contents
 
-  pub accepted : read_frame (frame q) ≡ Accepted contents
+  pub accepted : read_frame (frame q) ≡ Ok contents
   accepted = read_back.accepted
 
   pub one_control : contents.control.count ≡ 1

@@ -5,12 +5,11 @@ use mathlib.Core.Bool.{Bool, true, not}
 use mathlib.Core.List.{List, []}
 use lib.ListN.{length, replicate, length-replicate}
 use borrow.Author.Tests.{le-ltb}
-use Rattle.std.specs.Prelude.{if◌then◌else◌}
+use Rattle.std.specs.Prelude.{if◌then◌else◌, Ok, Err}
 use Rattle.octets.specs.Words.{◌below◌}
 use Rattle.tlv.specs.declared.Refusal.TheVariants as refusal
 use Rattle.port.specs.declared.Port.{Port}
-use Rattle.port.specs.declared.Written.{Written}
-use Rattle.port.specs.declared.Written.TheVariants as wrote
+use Rattle.port.specs.Types.{Written}
 use Rattle.port.specs.Writing.{frame, written}
 use Rattle.port.specs.Sound.{SoundPort}
 use Rattle.port.proofs.WritingLaws.{frame_longest}
@@ -48,9 +47,9 @@ long_enough p h = frame_longest p h
 -- a write, over its two tests
 abbrev write_by : Bool → Bool → Port → Written
 write_by runs short p =
-    if not runs then wrote.Refused refusal.NotRunning
-    else if short then wrote.Refused refusal.ShortOutput
-    else wrote.Octets (length (frame p))
+    if not runs then Err refusal.NotRunning
+    else if short then Err refusal.ShortOutput
+    else Ok (length (frame p))
 
 accepts : (s : Settings) (p : Port) → Runs s p → Accepts p lent
 unfolding written

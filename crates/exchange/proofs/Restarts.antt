@@ -17,7 +17,7 @@ use Rattle.port.specs.declared.Flag.{Flag}
 use Rattle.port.specs.declared.Flag.TheVariants.{Admin, Receive, Transmit, Several}
 use Rattle.port.specs.declared.Port.{Port}
 use Rattle.port.specs.declared.Versions.{Versions}
-use Rattle.port.specs.declared.Raised.{Raised}
+use Rattle.port.specs.Types.{Raised}
 use Rattle.port.specs.Parts.{switched_off, feature_of, max_of, with_control, with_features, release, flag_of, with_flag, running}
 use Rattle.sending.specs.Sending.{with_seq, raises_seq_no, sent, fresh_parts, fresh_port}
 use Rattle.events.specs.PortEvents.{refused, unchanged, event}

@@ -5,7 +5,7 @@ use mathlib.Core.Path.{◌≡◌, refl, sym, ap, ◌∙◌, subst}
 use mathlib.Core.Bool.{Bool, true, false, false≢true}
 use mathlib.Core.List.{List}
 use lib.ListN.{take}
-use Rattle.std.specs.Prelude.{if◌then◌else◌}
+use Rattle.std.specs.Prelude.{if◌then◌else◌, Ok, Err}
 use Rattle.octets.specs.Octets.{at, number4}
 use Rattle.notices.specs.Notices.{is_port}
 use Rattle.contents.specs.declared.Contents.{Contents}
@@ -20,7 +20,6 @@ use Rattle.parameters.specs.declared.Feature.TheVariants.{Groups, Flow, Applicat
 use Rattle.feature.specs.declared.Release.{Release}
 use Rattle.feature.specs.Outcome.{Received, oper_of, max_of, enable_of, willing_of, error_of, parameters_of}
 use Rattle.port.specs.declared.Port.{Port}
-use Rattle.port.specs.declared.Written.TheVariants as wrote
 use Rattle.port.specs.Parts.{feature_of, released_of}
 use Rattle.port.specs.Writing.{frame, written, output}
 use Rattle.port.specs.Sound.{SoundPort}
@@ -112,7 +111,7 @@ module _ (p : Port) (h : SoundPort p) where
 -- ---- a request to write at a port of a recorder
 
 -- over the test: does the number name a port
-operated_reads : (p : Port) → RoundTrip p → (v : Revision) (out : List ℕ) (k : ℕ) (b : Bool) → (if b then written p out else wrote.Refused NoPort) ≡ wrote.Octets k
+operated_reads : (p : Port) → RoundTrip p → (v : Revision) (out : List ℕ) (k : ℕ) (b : Bool) → (if b then written p out else Err NoPort) ≡ Ok k
     → ReadsBack v p (take k (if b then output p out else out))
 operated_reads p h v out k true e = h.writes v out k e
 operated_reads p h v out k false e = let z : ◌≡◌ {A = ℕ} 0 1 = cc in absurd (omega arith)

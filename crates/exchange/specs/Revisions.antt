@@ -1,9 +1,8 @@
 -- 02, E11: "Demand 3 is shown once with the revision of each end as an input": `Demand3` and `JoinedDemand3` are of ports of any revision, which a
 -- port has from its creation on. Here is what they come to "between unlike ends", and what a 1.0 port writes.
-use Rattle.std.specs.Prelude.{ℕ, ◌≤◌, ◌≡◌, true, List, [], length}
+use Rattle.std.specs.Prelude.{ℕ, ◌≤◌, ◌≡◌, true, List, [], length, Ok}
 use Rattle.contents.specs.declared.Contents.{Contents}
 use Rattle.tlv.specs.declared.Revision.TheVariants.{Rev101, Rev10}
-use Rattle.contents.specs.declared.Reading.TheVariants.{Accepted}
 use Rattle.reading.specs.Reading.{read_frame}
 use Rattle.parameters.specs.declared.Feature.TheVariants.{Applications}
 use Rattle.feature.specs.declared.Reason.TheVariants.{Absent}
@@ -37,7 +36,7 @@ pub record UnlikeEnds (c : Ends) : Type 0 where
 pub record WritesNone (p : Port) : Type 0 where
   pub none : released_tlv p Applications ≡ []
   pub contents : Contents
-  pub accepted : read_frame (frame p) ≡ Accepted contents
+  pub accepted : read_frame (frame p) ≡ Ok contents
   pub count : contents.applications.count ≡ 0
 
 -- a 1.0 port, after any list of calls

@@ -1,10 +1,9 @@
 -- 02, E5: "The port shall keep, beside each feature's present state, the sub-TLV last released, and write that one". The round trip: what is written reads
 -- back as what was released. Nothing is asked of the present settings: while a change waits, what is read is what was released before it (such ports:
 -- worked/Worked, `waiting`).
-use Rattle.std.specs.Prelude.{ℕ, ◌≡◌, Bool, true, false, List, take}
+use Rattle.std.specs.Prelude.{ℕ, ◌≡◌, Bool, true, false, List, take, Ok}
 use Rattle.contents.specs.declared.Contents.{Contents}
 use Rattle.tlv.specs.declared.Revision.{Revision}
-use Rattle.contents.specs.declared.Reading.TheVariants.{Accepted}
 use Rattle.tlv.specs.Revisions.{has_applications}
 use Rattle.reading.specs.Revisions.{read_for}
 use Rattle.parameters.specs.declared.Feature.{Feature}
@@ -13,7 +12,6 @@ use Rattle.feature.specs.declared.Release.{Release}
 use Rattle.feature.specs.Outcome.{Received, oper_of, max_of, enable_of, willing_of, error_of, parameters_of}
 use Rattle.machine.specs.State.{value}
 use Rattle.port.specs.declared.Port.{Port}
-use Rattle.port.specs.declared.Written.TheVariants as wrote
 use Rattle.port.specs.Parts.{feature_of, released_of, three}
 use Rattle.port.specs.Writing.{frame, written, output}
 use Rattle.port.specs.Sound.{SoundPort}
@@ -42,7 +40,7 @@ pub record FoundOnce (highest : ℕ) (x : Release) (found : Received) : Type 0 w
 -- Octets are read by a reader of a revision, without refusal, as what port p has last released.
 pub record ReadsBack (v : Revision) (p : Port) (octets : List ℕ) : Type 0 where
   pub contents : Contents
-  pub accepted : read_for v octets ≡ Accepted contents
+  pub accepted : read_for v octets ≡ Ok contents
   -- "Type 1, control, length 10: Oper version, Max version, SeqNo (4), AckNo (4).": exactly one, the port's own
   pub control : contents.control.count ≡ 1
   pub oper : (message octets contents).oper ≡ p.control.oper
@@ -59,11 +57,11 @@ pub record ReadsBack (v : Revision) (p : Port) (octets : List ℕ) : Type 0 wher
 -- the frame of a port; and what an accepted request to write leaves in the output that it was lent
 pub record RoundTrip (p : Port) : Type 0 where
   pub frames : (v : Revision) → ReadsBack v p (frame p)
-  pub writes : (v : Revision) (out : List ℕ) (n : ℕ) → written p out ≡ wrote.Octets n → ReadsBack v p (take n (output p out))
+  pub writes : (v : Revision) (out : List ℕ) (n : ℕ) → written p out ≡ Ok n → ReadsBack v p (take n (output p out))
 
 -- of every sound port; so of every port of a reachable recorder, after any calls; and of each accepted request to write there
 pub record RoundTrips : Type 0 where
   pub of_ports : (p : Port) → SoundPort p → RoundTrip p
   pub of_recorders : (r : Recorder) → Reachable r → (n : ℕ) → RoundTrip (port_at r n)
-  pub operated : (r : Recorder) → Reachable r → (n : ℕ) (v : Revision) (out : List ℕ) (k : ℕ) → recorder.written n (port_at r n) out ≡ wrote.Octets k
+  pub operated : (r : Recorder) → Reachable r → (n : ℕ) (v : Revision) (out : List ℕ) (k : ℕ) → recorder.written n (port_at r n) out ≡ Ok k
       → ReadsBack v (port_at r n) (take k (recorder.output n (port_at r n) out))

@@ -1,6 +1,8 @@
 -- Handling a frame by its small part, decided first, and the port that is made of it: laws for each way out of the functions. Assumes
 -- nothing.
-use Rattle.std.specs.Prelude.{ℕ, Bool, true, false, ◌&&◌, ◌||◌, ◌≡◌, List, if◌then◌else◌}
+use Rattle.tlv.specs.Refusals.{rejection}
+use Rattle.std.specs.Option.{is_some}
+use Rattle.std.specs.Prelude.{Option, None, Some, ℕ, Bool, true, false, ◌&&◌, ◌||◌, ◌≡◌, List, if◌then◌else◌, Ok, Err}
 use Rattle.std.proofs.Math.Bool.{not}
 use Rattle.std.proofs.Common.{◌∙◌}
 use Rattle.std.proofs.Math.Path.{refl, sym, ap}
@@ -8,16 +10,16 @@ use Rattle.octets.specs.Words.{◌below◌, ◌is◌}
 use Rattle.octets.specs.Octets.{same}
 use Rattle.contents.specs.declared.Contents.{Contents}
 use Rattle.contents.specs.declared.Found.{Found}
-use Rattle.tlv.specs.declared.Refusal.{Refusal}
+use Rattle.tlv.specs.declared.Rejection.{Rejection}
 use Rattle.tlv.specs.declared.Refusal.TheVariants.{NotRunning, SeveralNeighbours}
-use Rattle.contents.specs.declared.Reading.{Reading}
-use Rattle.contents.specs.declared.Reading.TheVariants.{Refused, Accepted}
 use Rattle.reading.specs.Revisions.{read_for}
-use Rattle.contents.specs.Contents.{value_of}
+use Rattle.contents.specs.Contents.{Reading, value_of}
 use Rattle.parameters.specs.declared.Feature.{Feature}
 use Rattle.parameters.specs.declared.Feature.TheVariants.{Groups, Flow, Applications}
 use Rattle.parameters.specs.declared.Parameters.{Parameters}
+use Rattle.feature.specs.declared.Peer.{Peer}
 use Rattle.feature.specs.declared.State.{State}
+use Rattle.feature.specs.OutcomeLaws.{flags_held}
 use Rattle.turn.specs.declared.Course.{Course}
 use Rattle.turn.specs.declared.Turn.{Turn}
 use Rattle.feature.specs.Outcome.{lower}
@@ -31,7 +33,6 @@ use Rattle.port.specs.declared.Port.{Port}
 use Rattle.port.specs.declared.Released.{Released}
 use Rattle.port.specs.declared.Notices.{Notices}
 use Rattle.port.specs.declared.Event.{Event}
-use Rattle.port.specs.declared.Answer.TheVariants.{Done}
 use Rattle.notices.specs.declared.Kind.TheVariants.{DuplicateControl}
 use Rattle.port.specs.Parts.{feature_of, three, with_control, with_features, presents, with_released, release, some, running}
 use Rattle.port.specs.Writing.{control_value, asks}
@@ -50,7 +51,7 @@ unfolding handled given admitted
 handled_admitted p o = by (running p) p.several
   where
     by : (a b : Bool) → (if not a then rejected NotRunning 0 p else if b then rejected SeveralNeighbours 0 p else given o (read_for p.revision o) p)
-        ≡ given o (if not a then Refused NotRunning 0 else if b then Refused SeveralNeighbours 0 else read_for p.revision o) p
+        ≡ given o (if not a then Err (rejection NotRunning 0) else if b then Err (rejection SeveralNeighbours 0) else read_for p.revision o) p
     by false b = refl
     by true true = refl
     by true false = refl
@@ -137,19 +138,24 @@ module _ (o : List ℕ) (c : Contents) (p : Port) where
         } in
         rw done (λ i. record { course = (eh i).course; wish = wish i; releases = up i; control = uk i; groups = eg i; flow = ew i; applications = ea i; notices = notices i })
 
+  held_alike : (q : Option Peer) → is_some (flags_held q) ≡ is_some q
+  held_alike None = refl
+  held_alike (Some q) = refl
+
   part_made : (f : Feature) {t : Turn} {way : Course} {x : Parameters} {y : State} → way ≡ (heard_of o c p.control).course → t ≡ turn_of (state_by o c p (heard_of o c p.control) f)
-      → x ≡ peer_parameters_after way f (has_of o c f).value t.decision.held (feature_of p f) → y ≡ renewed (feature_of p f) t x → y ≡ state_by o c p (heard_of o c p.control) f
+      → x ≡ peer_parameters_after way f (has_of o c f).value (is_some t.decision.peer) (feature_of p f) → y ≡ renewed (feature_of p f) t x → y ≡ state_by o c p (heard_of o c p.control) f
   part_made f {t} {way} {x} {y} ew et ex ey =
       let h : Heard = heard_of o c p.control in
       let v : List ℕ = (has_of o c f).value in
       let z : State = state_by o c p h f in
-      let e : x ≡ peer_parameters_after h.course f v z.outcome.peer.held (feature_of p f) = ex ∙ (λ i. peer_parameters_after (ew i) f v (et i).decision.held (feature_of p f)) in
+      let e : x ≡ peer_parameters_after h.course f v (is_some z.outcome.peer) (feature_of p f) = ex ∙ (λ i. peer_parameters_after (ew i) f v (is_some (et i).decision.peer) (feature_of p f))
+      ∙ ap (λ (b : Bool). peer_parameters_after h.course f v b (feature_of p f)) (held_alike z.outcome.peer) in
       ey ∙ (λ i. renewed (feature_of p f) (et i) (e i)) ∙ renewed_after h.course f (has_of o c f) h.control.rcvd p.control.seq (feature_of p f)
 
   pub apply_is : {k : Change} → k ≡ change_of o c p
-      → {x y z : Parameters} → x ≡ peer_parameters_after k.course Groups (value_of o c.groups) k.groups.decision.held p.groups
-      → y ≡ peer_parameters_after k.course Flow (value_of o c.flow) k.flow.decision.held p.flow
-      → z ≡ peer_parameters_after k.course Applications (value_of o c.applications) k.applications.decision.held p.applications
+      → {x y z : Parameters} → x ≡ peer_parameters_after k.course Groups (value_of o c.groups) (is_some k.groups.decision.peer) p.groups
+      → y ≡ peer_parameters_after k.course Flow (value_of o c.flow) (is_some k.flow.decision.peer) p.flow
+      → z ≡ peer_parameters_after k.course Applications (value_of o c.applications) (is_some k.applications.decision.peer) p.applications
       → {g w a : State} → g ≡ renewed p.groups k.groups x → w ≡ renewed p.flow k.flow y → a ≡ renewed p.applications k.applications z
       → with_features (with_control p k.control) (three g w a) ≡ unreleased o c p
   unfolding change_of
@@ -185,21 +191,21 @@ module _ (p : Port) (o : List ℕ) {r : Reading} (er : Admits p o r) where
   admitted_event : handled p o ≡ given o r p
   admitted_event = handled_admitted p o ∙ ap (λ (r : Reading). given o r p) (sym er.answers)
 
-  pub handle_refused : {why : Refusal} {place : ℕ} {e : Event} → r ≡ Refused why place → e ≡ rejected why place p → e ≡ handled p o
+  pub handle_refused : {x : Rejection} {e : Event} → r ≡ Err x → e ≡ rejected x.why x.place p → e ≡ handled p o
   unfolding given
   handle_refused e ee = rw (admitted_event, e) ee
 
-  handle_accepted : {k : Contents} {d : Change} {q : Port} → r ≡ Accepted k → d ≡ change_of o k p → q ≡ completed p (steps1to4 o k p)
-      → record { answer = Done d.wish; port = q; notices = d.notices } ≡ handled p o
+  handle_accepted : {k : Contents} {d : Change} {q : Port} → r ≡ Ok k → d ≡ change_of o k p → q ≡ completed p (steps1to4 o k p)
+      → record { answer = Ok d.wish; port = q; notices = d.notices } ≡ handled p o
   unfolding given accepted frame_event change_of
   handle_accepted e ed eq = rw (admitted_event, e, ed, eq) refl
 
-module _ {p : Port} {o : List ℕ} {c : Contents} (a : Admits p o (Accepted c)) where
+module _ {p : Port} {o : List ℕ} {c : Contents} (a : Admits p o (Ok c)) where
   module _ {d : Change} (ed : d ≡ change_of o c p) {q : Port} (eq : q ≡ unreleased o c p) where
-    pub accept_released : d.releases ≡ true → {x : Port} → x ≡ release q → record { answer = Done d.wish; port = x; notices = d.notices } ≡ handled p o
+    pub accept_released : d.releases ≡ true → {x : Port} → x ≡ release q → record { answer = Ok d.wish; port = x; notices = d.notices } ≡ handled p o
     unfolding change_of
     accept_released t ex = handle_accepted p o a refl ed (ex ∙ ap release eq ∙ released_is o c p (sym (ap (λ (d : Change). d.releases) ed) ∙ t))
 
-    pub accept_kept : d.releases ≡ false → record { answer = Done d.wish; port = q; notices = d.notices } ≡ handled p o
+    pub accept_kept : d.releases ≡ false → record { answer = Ok d.wish; port = q; notices = d.notices } ≡ handled p o
     unfolding change_of
     accept_kept t = handle_accepted p o a refl ed (eq ∙ kept_is o c p (sym (ap (λ (d : Change). d.releases) ed) ∙ t))

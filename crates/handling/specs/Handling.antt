@@ -1,17 +1,16 @@
 -- 01, Handling a frame: steps 1 to 5. What steps 1 to 3 do to the control, and what a frame that is refused does, is in admission/Admission.
-use Rattle.std.specs.Prelude.{ℕ, not, List, if◌then◌else◌}
+use Rattle.std.specs.Prelude.{ℕ, not, List, if◌then◌else◌, Ok, Err}
 use Rattle.octets.specs.Words.{◌below◌, ◌is◌}
 use Rattle.tlv.specs.declared.Refusal.TheVariants as refusal
 use Rattle.contents.specs.declared.Contents.{Contents}
-use Rattle.contents.specs.declared.Reading.{Reading}
-use Rattle.contents.specs.declared.Reading.TheVariants.{Refused, Accepted}
+use Rattle.contents.specs.Contents.{Reading}
 use Rattle.reading.specs.Revisions.{read_for}
 use Rattle.feature.specs.Outcome.{lower}
 use Rattle.turn.specs.Turn.{control_twice, acknowledged, received}
 use Rattle.notices.specs.declared.Kind.TheVariants as kind
 use Rattle.port.specs.declared.Port.{Port}
 use Rattle.port.specs.declared.Event.{Event}
-use Rattle.port.specs.declared.Raised.{Raised}
+use Rattle.port.specs.Types.{Raised}
 use Rattle.port.specs.Parts.{feature_of, with_control, with_features, running}
 use Rattle.events.specs.PortEvents.{event}
 use Rattle.sending.specs.Sending.{completed}
@@ -48,8 +47,8 @@ unfoldable pub accepted : List ℕ → Contents → Port → Event
 accepted o c p = frame_event p (completed p (steps1to4 o c p))
 
 unfoldable pub given : List ℕ → Reading → Port → Event
-given o (Refused why place) p = rejected why place p
-given o (Accepted c) p = accepted o c p
+given o (Err r) p = rejected r.why r.place p
+given o (Ok c) p = accepted o c p
 
 -- "1: the port isn't running: a frame, ..", "2: a frame while several neighbours are flagged", then 3 to 8; 02, E11: the reader is told the revision
 unfoldable pub handled : Port → List ℕ → Event

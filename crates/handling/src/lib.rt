@@ -3,10 +3,11 @@
 #![tactic(auto)]
 
 ghost use Rattle.std.specs.Prelude.{◌≡◌, true, ◌+◌, ◌≤◌, length};
-ghost use Rattle.contents.specs.declared.Reading.TheVariants.{Accepted};
+ghost use Rattle.std.specs.Option.{is_some};
 ghost use Rattle.contents.specs.Contents.{value_of};
 ghost use Rattle.reading.specs.Promises.{Inside};
 ghost use Rattle.turn.specs.TurnLaws.{peer_parameters_after};
+ghost use Rattle.parameters.specs.declared.Feature.{Feature};
 ghost use Rattle.parameters.specs.declared.Feature.TheVariants.{Groups, Flow, Applications};
 ghost use Rattle.port.specs.Parts.{release, running};
 ghost use Rattle.events.specs.PortEvents.{becomes};
@@ -15,11 +16,11 @@ ghost use Rattle.handling.specs.Handling.{handled};
 ghost use Rattle.handling.specs.HandlingLaws.{after_in, change_of, unreleased, waits_by};
 
 use admission::Heard;
-use contents::{Contents, Found, Reading};
+use contents::{Contents, Found};
 use feature::State;
 use notices::Kind;
 use parameters::{Feature, Parameters};
-use port::{Answer, Control, Event, Notices, Port, Raised};
+use port::{Control, Event, Notices, Port, Raised};
 use turn::{Course, Turn};
 
 // What a frame changes in a port, but for the parameters held of the peer.
@@ -35,85 +36,59 @@ struct Change {
     notices: Notices,
 }
 
-// Steps 1 to 5 for one feature. Each feature has a function of its own, with one caller: it is inlined there, and what it calls is
-// made for the feature; no state is then copied for a call.
-fn turn_of_groups(x: State, h: Heard, seq: u32, s: &[u8], found: Found) -> Turn
+// One of the three features, as a type.
+trait Which {
+    ghost FEATURE: { Feature };
+
+    const FEATURE: Feature;
+}
+
+struct OfGroups;
+
+impl Which for OfGroups {
+    ghost FEATURE = { Groups };
+
+    const FEATURE: Feature = Feature::Groups;
+}
+
+struct OfFlow;
+
+impl Which for OfFlow {
+    ghost FEATURE = { Flow };
+
+    const FEATURE: Feature = Feature::Flow;
+}
+
+struct OfApplications;
+
+impl Which for OfApplications {
+    ghost FEATURE = { Applications };
+
+    const FEATURE: Feature = Feature::Applications;
+}
+
+// Steps 1 to 5 for one feature. It is made for each feature anew, with one caller: it is inlined there, with what it calls, and no
+// state is copied for a call.
+fn turn_of<F: Which>(x: State, h: Heard, seq: u32, s: &[u8], found: Found) -> Turn
     requires { found.start + found.length ≤ length s.now }
-    ensures { result ≡ after_in Groups x h seq s.now found }
+    ensures { result ≡ after_in F.FEATURE x h seq s.now found }
 {
-    let course = h.course;
-    let k = h.control;
-    let o = x.outcome;
     let value = admission::part(s, found);
     let own = x.setting.desired;
-    let desired = octets::first(&own.octets, octets::wide(own.length));
     let d = feature::decide(
-        Feature::Groups,
+        F::FEATURE,
         x.max,
         x.setting,
-        desired,
-        o.oper,
+        own.content(),
+        x.outcome.oper,
         found.count,
         value,
     );
     turn::handle(
-        Feature::Groups,
+        F::FEATURE,
         x,
-        course,
-        k.rcvd,
-        seq,
-        found.count,
-        value,
-        d,
-    )
-}
-
-fn turn_of_flow(x: State, h: Heard, seq: u32, s: &[u8], found: Found) -> Turn
-    requires { found.start + found.length ≤ length s.now }
-    ensures { result ≡ after_in Flow x h seq s.now found }
-{
-    let course = h.course;
-    let k = h.control;
-    let o = x.outcome;
-    let value = admission::part(s, found);
-    let own = x.setting.desired;
-    let desired = octets::first(&own.octets, octets::wide(own.length));
-    let d = feature::decide(
-        Feature::Flow,
-        x.max,
-        x.setting,
-        desired,
-        o.oper,
-        found.count,
-        value,
-    );
-    turn::handle(Feature::Flow, x, course, k.rcvd, seq, found.count, value, d)
-}
-
-fn turn_of_applications(x: State, h: Heard, seq: u32, s: &[u8], found: Found) -> Turn
-    requires { found.start + found.length ≤ length s.now }
-    ensures { result ≡ after_in Applications x h seq s.now found }
-{
-    let course = h.course;
-    let k = h.control;
-    let o = x.outcome;
-    let value = admission::part(s, found);
-    let own = x.setting.desired;
-    let desired = octets::first(&own.octets, octets::wide(own.length));
-    let d = feature::decide(
-        Feature::Applications,
-        x.max,
-        x.setting,
-        desired,
-        o.oper,
-        found.count,
-        value,
-    );
-    turn::handle(
-        Feature::Applications,
-        x,
-        course,
-        k.rcvd,
+        h.course,
+        h.control.rcvd,
         seq,
         found.count,
         value,
@@ -132,11 +107,7 @@ fn waits(t: Turn) -> bool
 fn notice(x: State, t: Turn) -> Raised
     ensures { result ≡ becomes x.outcome.reason t.decision.reason }
 {
-    let o = x.outcome;
-    let d = t.decision;
-    let why = o.reason;
-    let now = d.reason;
-    events::becomes(why, now)
+    events::becomes(x.outcome.reason, t.decision.reason)
 }
 
 // Decides what a frame that is accepted changes: `admit` says that the port runs and that the parts lie inside. A release comes with
@@ -147,30 +118,26 @@ fn decide(p: Port, s: &[u8], c: Contents) -> Change
 {
     let old = p.control;
     let h = admission::hear(s, c, old);
-    let course = h.course;
-    let a = turn_of_applications(p.applications, h, old.seq, s, c.applications);
-    let g = turn_of_groups(p.groups, h, old.seq, s, c.groups);
-    let w = turn_of_flow(p.flow, h, old.seq, s, c.flow);
+    let a = turn_of::<OfApplications>(p.applications, h, old.seq, s, c.applications);
+    let g = turn_of::<OfGroups>(p.groups, h, old.seq, s, c.groups);
+    let w = turn_of::<OfFlow>(p.flow, h, old.seq, s, c.flow);
     let up = sending::raises_seq(h.control, waits(g) | waits(w) | waits(a));
     let control = sending::count(h.control, up);
     let same = port::writing::same_control(old, control);
     let x = admission::newly_marked(Kind::DuplicateControl, old.duplicate, control.duplicate);
-    let y = notice(p.groups, g);
-    let z = notice(p.flow, w);
-    let v = notice(p.applications, a);
     Change {
-        course: course,
+        course: h.course,
         wish: !same,
         releases: up,
-        control: control,
+        control,
         groups: g,
         flow: w,
         applications: a,
         notices: Notices {
             port: x,
-            groups: y,
-            flow: z,
-            applications: v,
+            groups: notice(p.groups, g),
+            flow: notice(p.flow, w),
+            applications: notice(p.applications, a),
         },
     }
 }
@@ -185,10 +152,15 @@ fn peer_parameters(
     found: Found,
 ) -> Parameters
     requires { found.start + found.length ≤ length s.now }
-    ensures { result ≡ peer_parameters_after course f (value_of s.now found) t.decision.held x }
+    ensures { result ≡ peer_parameters_after course f (value_of s.now found) (is_some t.decision.peer) x }
 {
-    let d = t.decision;
-    turn::peer_parameters_after(f, x, course, d.held, admission::part(s, found))
+    turn::peer_parameters_after(
+        f,
+        x,
+        course,
+        t.decision.peer.is_some(),
+        admission::part(s, found),
+    )
 }
 
 // The port with all features released (02, E5).
@@ -206,7 +178,6 @@ fn apply(p: Port, k: Change, s: &[u8], c: Contents) -> Port
     ensures { result ≡ unreleased s.now c p }
 {
     let course = k.course;
-    let control = k.control;
     let z = peer_parameters(
         Feature::Applications,
         p.applications,
@@ -218,7 +189,7 @@ fn apply(p: Port, k: Change, s: &[u8], c: Contents) -> Port
     let y = peer_parameters(Feature::Flow, p.flow, course, k.flow, s, c.flow);
     let x = peer_parameters(Feature::Groups, p.groups, course, k.groups, s, c.groups);
     let mut next = p;
-    next.control = control;
+    next.control = k.control;
     next.groups = turn::renew(p.groups, k.groups, x);
     next.flow = turn::renew(p.flow, k.flow, y);
     next.applications = turn::renew(p.applications, k.applications, z);
@@ -228,23 +199,22 @@ fn apply(p: Port, k: Change, s: &[u8], c: Contents) -> Port
 // What a frame does of which `admit` says that it is accepted. A caller that has a refusal of its own calls `admit` and this, and
 // not `handle`: an event that comes on several ways is copied once more behind them. The `requires` is what `admit` ensures.
 pub fn accept(p: Port, s: &[u8], c: Contents) -> Event
-    requires { Admits p s.now (Accepted c) }
+    requires { Admits p s.now (Ok c) }
     ensures { result ≡ handled p s.now }
 {
     let change = decide(p, s, c);
-    let port = apply(p, change, s, c);
-    let notices = change.notices;
+    let next = apply(p, change, s, c);
     if change.releases {
         return Event {
-            answer: Answer::Done(change.wish),
-            port: release(port),
-            notices: notices,
+            answer: Ok(change.wish),
+            port: release(next),
+            notices: change.notices,
         };
     }
     Event {
-        answer: Answer::Done(change.wish),
-        port: port,
-        notices: notices,
+        answer: Ok(change.wish),
+        port: next,
+        notices: change.notices,
     }
 }
 
@@ -252,13 +222,8 @@ pub fn accept(p: Port, s: &[u8], c: Contents) -> Event
 pub fn handle(p: Port, s: &[u8]) -> Event
     ensures { result ≡ handled p s.now }
 {
-    let read = admission::admit(p, s);
-    match read {
-        Reading::Refused(why, place) => {
-            return admission::reject(why, place, p);
-        }
-        Reading::Accepted(contents) => {
-            return accept(p, s, contents);
-        }
+    match admission::admit(p, s) {
+        Ok(contents) => accept(p, s, contents),
+        Err(r) => admission::reject(r, p),
     }
 }

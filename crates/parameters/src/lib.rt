@@ -87,7 +87,7 @@ impl<T: Copy> Each<T> {
 }
 
 // A configuration: the octets of a feature's parameters, zero past `length`. Two are the same (`==`, and `same_parameters` in specs/) where all of
-// it is: order of application entries and number of classes included.
+// it is: order of application entries and number of classes included. Octets with a length beside them: no heap, fixed memory.
 #[derive(Clone, Copy, Debug, PartialEq, Eq)]
 pub struct Parameters {
     pub length: u8,

@@ -1,7 +1,7 @@
 -- What every reachable port has: lengths, ranges, Oper at most Max, valid settings, also of what was last released; and how far what is released
 -- is the present (`InStep`). (In antt an array is a list of any length and a
 -- number has no bound, so theorems over ports need it.)
-use Rattle.std.specs.Prelude.{ℕ, ◌<◌, ◌≤◌, ◌^◌, ◌≡◌, Bool, true, false, not, ◌&&◌, ◌⊎◌, []}
+use Rattle.std.specs.Prelude.{ℕ, ◌<◌, ◌≤◌, ◌^◌, ◌≡◌, Bool, true, false, not, ◌&&◌, ◌⊎◌, [], Option, None, Some}
 use Rattle.tlv.specs.Revisions.{has_applications}
 use Rattle.parameters.specs.declared.Feature.{Feature}
 use Rattle.parameters.specs.declared.Feature.TheVariants.{Applications}
@@ -11,7 +11,6 @@ use Rattle.feature.specs.declared.Setting.{Setting}
 use Rattle.feature.specs.declared.Peer.{Peer}
 use Rattle.feature.specs.declared.State.{State}
 use Rattle.feature.specs.declared.Release.{Release}
-use Rattle.feature.specs.Outcome.{no_peer}
 use Rattle.machine.specs.State.{next, sub_tlv, setting_of}
 use Rattle.port.specs.declared.Control.{Control}
 use Rattle.port.specs.declared.Port.{Port}
@@ -28,14 +27,14 @@ pub record SoundSetting (f : Feature) (s : Setting) : Type 0 where
   pub desired : SoundParameters f s.desired
   pub local : parameters.local_values f (parameters.content s.desired) ≡ true
 
-pub record SoundPeer (f : Feature) (p : Peer) : Type 0 where
-  pub none : p.held ≡ false → p ≡ no_peer
-  pub some : p.held ≡ true → SoundParameters f p.parameters
+pub record SoundPeer (f : Feature) (o : Option Peer) : Type 0 where
+  pub some : (p : Peer) → o ≡ Some p → SoundParameters f p.parameters
 
 -- Rule 7 applies, to a peer that is held: "Willing differs: the unwilling end's configuration". So an end adopts its peer's exactly if it is
 -- the willing one.
-abbrev pub adopts_by : Setting → Peer → Bool
-adopts_by s p = p.held && s.enable && p.enable && s.willing && not p.willing
+abbrev pub adopts_by : Setting → Option Peer → Bool
+adopts_by s None = false
+adopts_by s (Some p) = s.enable && p.enable && s.willing && not p.willing
 
 -- of a feature that is not advertised no peer is held
 pub record SoundState (f : Feature) (x : State) : Type 0 where
@@ -46,7 +45,7 @@ pub record SoundState (f : Feature) (x : State) : Type 0 where
   pub peer : SoundPeer f x.outcome.peer
   -- so OperCfg is sound too (proofs/Soundness: `configuration_sound`)
   pub adopts : x.outcome.adopts ≡ adopts_by x.setting x.outcome.peer
-  pub withheld : x.setting.advertise ≡ false → x.outcome.peer.held ≡ false
+  pub withheld : x.setting.advertise ≡ false → x.outcome.peer ≡ None
 
 pub record SoundControl (c : Control) : Type 0 where
   pub max : c.max < 256

@@ -1,12 +1,11 @@
 -- The operations of a recorder, a law for each way out. Assumes nothing.
-use Rattle.std.specs.Prelude.{ℕ, ◌-◌, ◌<◌, ◌≤◌, ◌≡◌, Bool, true, false, not, List, set, replicate, if◌then◌else◌}
+use Rattle.std.specs.Prelude.{ℕ, ◌≡◌, Bool, true, false, not, List, set, replicate, if◌then◌else◌, Err}
 use Rattle.std.proofs.Math.Path.{refl}
 use Rattle.std.proofs.Common.{ap, ◌∙◌}
-use borrow.Author.Tests.{not-true, not-false, le-leb, lt-leb}
-use Rattle.tlv.specs.declared.Refusal.{Refusal}
+use borrow.Author.Tests.{not-true, not-false}
+use Rattle.tlv.specs.declared.Rejection.{Rejection}
 use Rattle.tlv.specs.declared.Refusal.TheVariants.{NoPort}
-use Rattle.contents.specs.declared.Reading.{Reading}
-use Rattle.contents.specs.declared.Reading.TheVariants.{Refused}
+use Rattle.contents.specs.Contents.{Reading}
 use Rattle.parameters.specs.declared.Feature.{Feature}
 use Rattle.feature.specs.declared.Switches.{Switches}
 use Rattle.notices.specs.declared.Log.{Log}
@@ -15,8 +14,7 @@ use Rattle.port.specs.declared.Flag.{Flag}
 use Rattle.port.specs.declared.Port.{Port}
 use Rattle.port.specs.declared.Versions.{Versions}
 use Rattle.port.specs.declared.Event.{Event}
-use Rattle.port.specs.declared.Written.{Written}
-use Rattle.port.specs.declared.Written.TheVariants as wrote
+use Rattle.port.specs.Types.{Written}
 use Rattle.creation.specs.Creation.{blank_port}
 use Rattle.events.specs.PortEvents.{refused}
 use Rattle.creation.specs.Creation as creation
@@ -33,21 +31,6 @@ use Rattle.recorder.specs.declared.Change.TheVariants as change
 use Rattle.logging.specs.Logging.{kept, is_silent}
 use Rattle.logging.specs.LoggingLaws.{silent_kept}
 use Rattle.recorder.specs.Recorder.{place_of, blank, happens, changed, created, stored, written, output, Wrote}
-
--- ---- ports
-
-module _ (n : ℕ) where
-  pub place_low : n < 1 → 0 ≡ place_of n
-  unfolding place_of
-  place_low h = simp (lt-leb 1 n h)
-
-  pub place_high : 1 ≤ n → 4 < n → 0 ≡ place_of n
-  unfolding place_of
-  place_high l h = simp (le-leb 1 n l, lt-leb n 4 h)
-
-  pub place_is : 1 ≤ n → n ≤ 4 → n - 1 ≡ place_of n
-  unfolding place_of
-  place_is l h = simp (le-leb 1 n l, le-leb n 4 h)
 
 pub blank_is : {p : Port} {l : Log} → p ≡ blank_port → l ≡ empty_log → record { ports = replicate 4 p; log = l } ≡ blank
 unfolding blank
@@ -97,12 +80,12 @@ module _ (n : ℕ) (p : Port) {b : Bool} (eb : b ≡ is_port n) where
   pub changed_handled : {e : Event} (o : List ℕ) → not b ≡ false → e ≡ handling.handled p o → e ≡ changed n p change.Frame o
   changed_handled o t er = changed_frame change.Frame o t refl er
 
-  pub changed_refused : {e : Event} {r : Reading} {why : Refusal} {place : ℕ} (o : List ℕ) → not b ≡ false → Admits p o r → r ≡ Refused why place
-      → e ≡ admission.rejected why place p → e ≡ changed n p change.Frame o
+  pub changed_refused : {e : Event} {r : Reading} {x : Rejection} (o : List ℕ) → not b ≡ false → Admits p o r → r ≡ Err x
+      → e ≡ admission.rejected x.why x.place p → e ≡ changed n p change.Frame o
   changed_refused o t a er ee = changed_handled o t (handle_refused p o a er ee)
 
   module _ (out : List ℕ) where
-    pub wrote_nowhere : not b ≡ true → Wrote n p out (wrote.Refused NoPort) out
+    pub wrote_nowhere : not b ≡ true → Wrote n p out (Err NoPort) out
     unfolding written output
     wrote_nowhere t = record { answers = rw (← eb, not-true b t) refl; octets = rw (← eb, not-true b t) refl }
 

@@ -1,5 +1,5 @@
 -- 02, E10: a recorder, "four ports that share one log of 64 notices", and its operations. Each names its port by a number.
-use Rattle.std.specs.Prelude.{ℕ, ◌-◌, ◌≡◌, List, get_or, set, replicate, if◌then◌else◌}
+use Rattle.std.specs.Prelude.{ℕ, ◌-◌, ◌≡◌, List, get_or, set, replicate, if◌then◌else◌, Err}
 use Rattle.tlv.specs.declared.Refusal.TheVariants.{NoPort}
 use Rattle.parameters.specs.declared.Feature.{Feature}
 use Rattle.feature.specs.declared.Switches.{Switches}
@@ -7,8 +7,7 @@ use Rattle.notices.specs.Notices.{is_port, empty_log}
 use Rattle.port.specs.declared.Port.{Port}
 use Rattle.port.specs.declared.Versions.{Versions}
 use Rattle.port.specs.declared.Event.{Event}
-use Rattle.port.specs.declared.Written.{Written}
-use Rattle.port.specs.declared.Written.TheVariants as wrote
+use Rattle.port.specs.Types.{Written}
 use Rattle.creation.specs.Creation.{blank_port}
 use Rattle.events.specs.PortEvents.{refused}
 use Rattle.flags.specs.Flags as flags
@@ -57,7 +56,7 @@ stored r n e =
 -- ---- a request to write at port n: the answer, and the lent output afterwards
 
 unfoldable pub written : ℕ → Port → List ℕ → Written
-written n p out = if is_port n then writing.written p out else wrote.Refused NoPort
+written n p out = if is_port n then writing.written p out else Err NoPort
 
 unfoldable pub output : ℕ → Port → List ℕ → List ℕ
 output n p out = if is_port n then writing.output p out else out

@@ -5,13 +5,12 @@ use mathlib.Core.Path.{◌≡◌, refl, sym, ap, ◌∙◌}
 use mathlib.Core.Bool.{Bool, true, false, not, ◌||◌, beq, false≢true}
 use mathlib.Core.List.{List}
 use lib.ListN.{length}
-use Rattle.std.specs.Prelude.{if◌then◌else◌}
+use Rattle.std.specs.Prelude.{if◌then◌else◌, None, Ok, Err}
 use Rattle.octets.specs.Words.{◌below◌, ◌is◌}
 use Rattle.tlv.specs.declared.Refusal.{Refusal}
 use Rattle.tlv.specs.declared.Refusal.TheVariants.{NotRunning, SeveralNeighbours, InvalidSetting, UnknownFeature}
 use Rattle.contents.specs.declared.Contents.{Contents}
-use Rattle.contents.specs.declared.Reading.{Reading}
-use Rattle.contents.specs.declared.Reading.TheVariants.{Refused, Accepted}
+use Rattle.contents.specs.Contents.{Reading}
 use Rattle.tlv.specs.Revisions.{has_applications}
 use Rattle.reading.specs.Revisions.{read_for}
 use Rattle.parameters.specs.declared.Feature.{Feature}
@@ -30,8 +29,7 @@ use Rattle.turn.specs.Turn.{control_twice, acknowledged, received}
 use Rattle.port.specs.declared.Flag.{Flag}
 use Rattle.port.specs.declared.Flag.TheVariants.{Admin, Receive, Transmit, Several}
 use Rattle.port.specs.declared.Port.{Port}
-use Rattle.port.specs.declared.Raised.{Raised}
-use Rattle.port.specs.declared.Raised.TheVariants as raised
+use Rattle.port.specs.Types.{Raised}
 use Rattle.port.specs.declared.Versions.{Versions}
 use Rattle.port.specs.Parts.{feature_of, with_control, with_features, release, flag_of, with_flag, running}
 use Rattle.port.specs.Sound.{SoundState, SoundPort}
@@ -193,8 +191,8 @@ module _ (p : Port) (h : Judged p) where
       by : (a b : Bool) (x : Reading) → Judged (if not a then rejected NotRunning 0 p else if b then rejected SeveralNeighbours 0 p else given o x p).port
       by false b x = rejected_judged NotRunning 0
       by true true x = rejected_judged SeveralNeighbours 0
-      by true false (Refused why place) = rejected_judged why place
-      by true false (Accepted c) = completed_judged p (steps1to4 o c p) (steps_judged o c)
+      by true false (Err r) = rejected_judged r.why r.place
+      by true false (Ok c) = completed_judged p (steps1to4 o c p) (steps_judged o c)
 
 -- ---- the other events
 
@@ -254,7 +252,7 @@ module _ (p : Port) (h : Judged p) where
             → Judged
             (if a then
             if b then unchanged p
-            else event raised.Nothing p
+            else event None p
             (if c then completed p (with_feature p f x) else fresh_port (with_feature p f (with_setting (feature_of p f) (setting_of f w o))))
             else refused InvalidSetting p).port
         by false b c = h

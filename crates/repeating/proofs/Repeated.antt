@@ -7,16 +7,14 @@ use mathlib.Core.Bool.{Bool, true, false, not, ◌&&◌, ◌||◌, beq, false≢
 use mathlib.Core.List.{List}
 use lib.ListN.{length}
 use borrow.Author.Tests.{eqb-true, eq-eqb, le-ltb}
-use Rattle.std.specs.Prelude.{if◌then◌else◌}
+use Rattle.std.specs.Prelude.{if◌then◌else◌, None, Ok, Err}
 use Rattle.octets.specs.Words.{◌below◌, ◌is◌}
 use Rattle.octets.specs.Octets.{at, same}
 use Rattle.octets.specs.Laws.{same_is, and_left, and_right}
 use Rattle.contents.specs.declared.Contents.{Contents}
-use Rattle.contents.specs.declared.Reading.{Reading}
-use Rattle.contents.specs.declared.Reading.TheVariants.{Refused, Accepted}
 use Rattle.tlv.specs.declared.Refusal.TheVariants.{NotRunning, SeveralNeighbours}
 use Rattle.reading.specs.Revisions.{read_for}
-use Rattle.contents.specs.Contents.{value_of}
+use Rattle.contents.specs.Contents.{Reading, value_of}
 use Rattle.parameters.specs.declared.Feature.{Feature}
 use Rattle.parameters.specs.declared.Feature.TheVariants.{Groups, Flow, Applications}
 use Rattle.parameters.specs.Parameters.{valid_groups, valid_flow, valid_applications, few_and_new, valid, ours, stored, content}
@@ -33,8 +31,6 @@ use Rattle.machine.specs.StateLaws.{changed_not, marked_same}
 use Rattle.turn.specs.TurnLaws.{after}
 use Rattle.notices.specs.declared.Kind.TheVariants.{DuplicateControl}
 use Rattle.port.specs.declared.Port.{Port}
-use Rattle.port.specs.declared.Answer.TheVariants.{Done}
-use Rattle.port.specs.declared.Raised.TheVariants as raised
 use Rattle.port.specs.Parts.{feature_of, with_control, running}
 use Rattle.port.specs.Sound.{SoundState, SoundPort}
 use Rattle.port.specs.Writing.{control_value, asks}
@@ -180,11 +176,11 @@ module _ (f : Feature) (x : State) (h : SoundState f x) (j : JudgedState f x) wh
 
 -- ---- the frame
 
-becomes_same : (r : Reason) → becomes r r ≡ raised.Nothing
+becomes_same : (r : Reason) → becomes r r ≡ None
 unfolding becomes
 becomes_same r = simp (eq-eqb (reason_number r) (reason_number r) refl)
 
-unmarks : (b : Bool) → newly_marked DuplicateControl b false ≡ raised.Nothing
+unmarks : (b : Bool) → newly_marked DuplicateControl b false ≡ None
 unmarks true = refl
 unmarks false = refl
 
@@ -235,7 +231,7 @@ module _ (p : Port) (h : SoundPort p) (j : Judged p) where
     accepts =
         ap (frame_event p) left
         ∙ (λ i. record {
-          answer = Done (sym asked i);
+          answer = Ok (sym asked i);
           port = with_control p k.control;
           notices = record {
             port = (ap (newly_marked DuplicateControl p.control.duplicate) unmarked-control ∙ unmarks p.control.duplicate) i;
@@ -297,5 +293,5 @@ module _ (p : Port) (h : SoundPort p) (j : Judged p) where
       taken true false e f = refl
 
       by : (x : Reading) → (repeat_given o x p).holds ≡ true → given o x p ≡ repetition p (repeat_given o x p)
-      by (Refused why place) t = absurd (false≢true t)
-      by (Accepted c) t = accepted_repeats o c runs sg sw sa t
+      by (Err r) t = absurd (false≢true t)
+      by (Ok c) t = accepted_repeats o c runs sg sw sa t

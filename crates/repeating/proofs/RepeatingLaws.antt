@@ -1,5 +1,6 @@
 -- Laws for each way out of the functions. Assumes nothing.
-use Rattle.std.specs.Prelude.{ℕ, ◌<◌, ◌≤◌, Bool, true, ◌&&◌, ◌≡◌, List, length, take, drop, if◌then◌else◌}
+use Rattle.tlv.specs.Refusals.{rejection}
+use Rattle.std.specs.Prelude.{ℕ, ◌<◌, ◌≤◌, Bool, true, ◌&&◌, ◌≡◌, List, length, take, drop, if◌then◌else◌, Ok, Err}
 use Rattle.std.proofs.Math.Bool.{false, not}
 use Rattle.std.proofs.Common.{◌∙◌, sym}
 use Rattle.std.proofs.Math.Path.{refl, ap}
@@ -8,10 +9,8 @@ use Rattle.octets.specs.Octets.{at, same}
 use Rattle.contents.specs.declared.Contents.{Contents}
 use Rattle.tlv.specs.declared.Revision.{Revision}
 use Rattle.tlv.specs.declared.Refusal.{Refusal}
-use Rattle.contents.specs.declared.Reading.{Reading}
-use Rattle.contents.specs.declared.Reading.TheVariants.{Refused, Accepted}
 use Rattle.reading.specs.Promises.{Inside, ReadsFor}
-use Rattle.contents.specs.Contents.{value_of}
+use Rattle.contents.specs.Contents.{Reading, value_of}
 use Rattle.parameters.specs.declared.Feature.{Feature}
 use Rattle.parameters.specs.declared.Feature.TheVariants.{Groups, Flow, Applications}
 use Rattle.parameters.specs.Parameters.{content}
@@ -130,14 +129,14 @@ module _ (n : ℕ) (p : Port) (o : List ℕ) {b : Bool} (eb : b ≡ none_waits n
   repeat_waits t e = e ∙ rw (← eb, t) refl
 
   module _ (t : not b ≡ false) {x : Reading} (a : ReadsFor p.revision o x) {r : Repetition} where
-    pub repeat_refused : {why : Refusal} {place : ℕ} → x ≡ Refused why place → r ≡ otherwise p.control → r ≡ repeat_of n p o
+    pub repeat_refused : {why : Refusal} {place : ℕ} → x ≡ Err (rejection why place) → r ≡ otherwise p.control → r ≡ repeat_of n p o
     unfolding repeat_of repeat_given
     repeat_refused ex e = e ∙ rw (← eb, t, ← a.is, ex) refl
 
-    pub repeat_accepted : {c : Contents} → x ≡ Accepted c → r ≡ repeat_in o c p → r ≡ repeat_of n p o
+    pub repeat_accepted : {c : Contents} → x ≡ Ok c → r ≡ repeat_in o c p → r ≡ repeat_of n p o
     unfolding repeat_of repeat_given
     repeat_accepted ex e = e ∙ rw (← eb, t, ← a.is, ex) refl
 
 -- what the call on the way needs of a frame that is accepted
-pub reads_inside : {v : Revision} {o : List ℕ} {r : Reading} {c : Contents} → ReadsFor v o r → r ≡ Accepted c → Inside o c
+pub reads_inside : {v : Revision} {o : List ℕ} {r : Reading} {c : Contents} → ReadsFor v o r → r ≡ Ok c → Inside o c
 reads_inside {c = c} a e = a.inside c e

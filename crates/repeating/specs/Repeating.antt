@@ -1,13 +1,11 @@
 -- A frame that repeats what is held of the peer, at a port whose features are all Syncd: a settled peer sends one every 30 seconds. At a port
 -- of a reachable recorder it changes the control alone (`ControlAlone`, proofs/Reachable).
-use Rattle.std.specs.Prelude.{ℕ, ◌%◌, Bool, true, false, not, ◌&&◌, ◌≡◌, List, length, if◌then◌else◌}
+use Rattle.std.specs.Prelude.{ℕ, ◌%◌, Bool, true, false, not, ◌&&◌, ◌≡◌, List, length, if◌then◌else◌, Ok, Err}
 use Rattle.std.specs.Bool.{beq}
 use Rattle.octets.specs.Words.{◌below◌, ◌atmost◌, ◌is◌}
 use Rattle.octets.specs.Octets.{at, same}
 use Rattle.contents.specs.declared.Contents.{Contents}
-use Rattle.contents.specs.declared.Reading.{Reading}
-use Rattle.contents.specs.declared.Reading.TheVariants.{Refused, Accepted}
-use Rattle.contents.specs.Contents.{value_of}
+use Rattle.contents.specs.Contents.{Reading, value_of}
 use Rattle.reading.specs.Revisions.{read_for}
 use Rattle.parameters.specs.declared.Feature.{Feature}
 use Rattle.parameters.specs.declared.Feature.TheVariants.{Groups, Flow, Applications}
@@ -20,7 +18,6 @@ use Rattle.notices.specs.Notices.{is_port}
 use Rattle.port.specs.declared.Control.{Control}
 use Rattle.port.specs.declared.Port.{Port}
 use Rattle.port.specs.declared.Event.{Event}
-use Rattle.port.specs.declared.Answer.TheVariants.{Done}
 use Rattle.port.specs.Parts.{with_control, running}
 use Rattle.port.specs.Writing.{control_value}
 use Rattle.events.specs.PortEvents.{silent}
@@ -91,8 +88,8 @@ repeat_in o c p =
     }
 
 unfoldable pub repeat_given : List ℕ → Reading → Port → Repetition
-repeat_given o (Refused why place) p = otherwise p.control
-repeat_given o (Accepted c) p = repeat_in o c p
+repeat_given o (Err r) p = otherwise p.control
+repeat_given o (Ok c) p = repeat_in o c p
 
 -- the port takes frames (01, Refusal numbers, 1 and 2; 02, E10: 16), and none of its features waits
 unfoldable pub none_waits : ℕ → Port → Bool
@@ -105,7 +102,7 @@ repeat_of n p o = if not (none_waits n p) then otherwise p.control else repeat_g
 
 -- what a repeated frame does: the control alone changes, nothing is raised
 abbrev pub repetition : Port → Repetition → Event
-repetition p r = record { answer = Done r.wish; port = with_control p r.control; notices = silent }
+repetition p r = record { answer = Ok r.wish; port = with_control p r.control; notices = silent }
 
 -- at every port that calls lead to
 abbrev pub ControlAlone : Type 0

@@ -1,89 +1,60 @@
 // Configurations in words, as settings have them, each word behind a space.
 use parameters::{Feature, Parameters};
-use printing::forms;
+use printing::Output;
 
-// An octet of the parameters, and its four-bit halves.
-fn whole(p: &[u8], i: usize) -> u64 {
-    octets::octet(p, i) as u64
+fn groups(page: &mut Output, p: &[u8]) {
+    page.text(b" priorities");
+    for i in 0..4 {
+        let two = octets::octet(p, i);
+        write!(page, " {} {}", two / 16, two % 16);
+    }
+    page.text(b" percentages");
+    for i in 4..12 {
+        write!(page, " {}", octets::octet(p, i));
+    }
+    write!(page, " classes {}", octets::octet(p, 12));
 }
 
-fn high(p: &[u8], i: usize) -> u64 {
-    octets::octet(p, i) as u64 / 16
+fn flow(page: &mut Output, p: &[u8]) {
+    page.text(b" mask ");
+    page.hex(octets::first(p, 1));
+    write!(page, " classes {}", octets::octet(p, 1));
 }
 
-fn low(p: &[u8], i: usize) -> u64 {
-    octets::octet(p, i) as u64 % 16
-}
-
-fn groups(out: &mut [u8], at: usize, p: &[u8]) -> usize {
-    let numbers = [
-        high(p, 0),
-        low(p, 0),
-        high(p, 1),
-        low(p, 1),
-        high(p, 2),
-        low(p, 2),
-        high(p, 3),
-        low(p, 3),
-        whole(p, 4),
-        whole(p, 5),
-        whole(p, 6),
-        whole(p, 7),
-        whole(p, 8),
-        whole(p, 9),
-        whole(p, 10),
-        whole(p, 11),
-        whole(p, 12),
-    ];
-    forms::put(
-        out,
-        at,
-        b" priorities # # # # # # # # percentages # # # # # # # # classes #",
-        &numbers,
-    )
-}
-
-fn flow(out: &mut [u8], at: usize, p: &[u8]) -> usize {
-    let classes = [whole(p, 1)];
-    let a = printing::text(out, at, b" mask ");
-    let b = printing::hex(out, a, octets::first(p, 1));
-    forms::put(out, b, b" classes #", &classes)
+// The word for the selector that the lower two bits of an octet give.
+fn selector(x: u8) -> &'static str {
+    match x % 4 {
+        0 => "ethertype",
+        1 => "port",
+        2 => "selector-2",
+        _ => "selector-3",
+    }
 }
 
 // ` SELECTOR ID MAP`
-fn entry(out: &mut [u8], at: usize, p: &[u8]) -> usize {
-    let selector = [whole(p, 2) % 4];
-    let a = forms::put(
-        out,
-        at,
-        b" [ethertype|port|selector-2|selector-3] ",
-        &selector,
-    );
-    let b = printing::hex(out, a, octets::first(p, 2));
-    let c = printing::text(out, b, b" ");
-    printing::hex(out, c, octets::first(octets::from(p, 5), 1))
+fn entry(page: &mut Output, e: &[u8]) {
+    write!(page, " {} ", selector(octets::octet(e, 2)));
+    page.hex(octets::first(e, 2));
+    page.text(b" ");
+    page.hex(octets::from(e, 5));
 }
 
-fn applications(out: &mut [u8], at: usize, p: &[u8], none: bool) -> usize {
-    let n = p.len() / 6;
-    if none & (n == 0) {
-        return printing::text(out, at, b" none");
+fn applications(page: &mut Output, p: &[u8], none: bool) {
+    let entries = p.chunks_exact(6);
+    if none && entries.len() == 0 {
+        page.text(b" none");
     }
-    let mut to = at;
-    let mut i: usize = 0;
-    while i < n {
-        to = entry(out, to, octets::from(p, 6 * i));
-        i += 1;
+    for e in entries {
+        entry(page, e);
     }
-    to
 }
 
 // The configuration in words. No applications are ` none` where `none` says so, and otherwise nothing at all.
-pub fn configuration(out: &mut [u8], at: usize, f: Feature, p: Parameters, none: bool) -> usize {
-    let c = octets::first(&p.octets, octets::wide(p.length));
+pub fn configuration(page: &mut Output, f: Feature, p: &Parameters, none: bool) {
+    let c = p.content();
     match f {
-        Feature::Groups => groups(out, at, c),
-        Feature::Flow => flow(out, at, c),
-        Feature::Applications => applications(out, at, c, none),
+        Feature::Groups => groups(page, c),
+        Feature::Flow => flow(page, c),
+        Feature::Applications => applications(page, c, none),
     }
 }

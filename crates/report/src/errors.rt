@@ -2,183 +2,118 @@
 use faults::Fault;
 use grammar::{Field, Name};
 use lines::{Due, Unread};
-use printing::forms;
+use printing::Output;
 
-// The place among the forms of `due`: of a name, of a field, of all.
-fn name_place(n: Name) -> u64 {
-    match n {
-        Name::Control => 7,
-        Name::Groups => 8,
-        Name::Flow => 9,
-        Name::Applications => 10,
-        Name::Max => 11,
-        Name::Advertise => 12,
-        Name::Enable => 13,
-        Name::Willing => 14,
-        Name::Priorities => 15,
-        Name::Percentages => 16,
-        Name::Mask => 17,
-        Name::Classes => 18,
-        Name::Revision => 19,
-    }
-}
-
-fn field_place(f: Field) -> u64 {
+// `WHAT is due`, of a word of a setting
+fn field_due(page: &mut Output, f: Field) {
     match f {
-        Field::Word(n) => name_place(n),
-        Field::Bit => 0,
-        Field::Hex2 => 1,
-        Field::Hex4 => 2,
-        Field::Selector => 3,
-        Field::Parameters => 4,
-        Field::Octets => 5,
-        Field::End => 6,
-        Field::Decimal(_) => 20,
-    }
-}
-
-fn due_place(d: Due) -> u64 {
-    match d {
-        Due::Field(f) => field_place(f),
-        Due::Event => 21,
-        Due::Feature => 22,
-        Due::Frame => 23,
-        Due::Revision => 24,
-    }
-}
-
-// The limit of a number that is due; 0 where another word is.
-fn field_limit(f: Field) -> u64 {
-    match f {
-        Field::Decimal(limit) => limit as u64,
-        _ => 0,
-    }
-}
-
-fn due_limit(d: Due) -> u64 {
-    match d {
-        Due::Field(f) => field_limit(f),
-        _ => 0,
+        Field::Word(n) => {
+            page.text(fields::name_text(n));
+            page.text(b" is due\n");
+        }
+        Field::Bit => page.text(b"a bit is due\n"),
+        Field::Decimal(limit) => writeln!(page, "a number up to {limit} is due"),
+        Field::Hex2 => page.text(b"two hex digits are due\n"),
+        Field::Hex4 => page.text(b"four hex digits are due\n"),
+        Field::Selector => page.text(b"a selector is due\n"),
+        Field::Parameters => page.text(b"parameters is due\n"),
+        Field::Octets => page.text(b"octets are due\n"),
+        Field::End => page.text(b"the end of the line is due\n"),
     }
 }
 
 // `WHAT is due`
-fn due(out: &mut [u8], at: usize, d: Due) -> usize {
-    let numbers = [due_limit(d)];
-    let form = forms::picked(
-        b"a bit is due\n|two hex digits are due\n|four hex digits are due\n|a selector is due\n|parameters is due\n|octets are due\n|the end of the line is due\n|control is due\n|groups is due\n|flow is due\n|applications is due\n|max is due\n|advertise is due\n|enable is due\n|willing is due\n|priorities is due\n|percentages is due\n|mask is due\n|classes is due\n|revision is due\n|a number up to # is due\n|an event is due\n|a feature is due\n|a frame is due\n|1.0 or 1.01 is due\n",
-        due_place(d),
-    );
-    forms::put(out, at, form, &numbers)
+fn due(page: &mut Output, d: Due) {
+    match d {
+        Due::Field(f) => field_due(page, f),
+        Due::Event => page.text(b"an event is due\n"),
+        Due::Feature => page.text(b"a feature is due\n"),
+        Due::Frame => page.text(b"a frame is due\n"),
+        Due::Revision => page.text(b"1.0 or 1.01 is due\n"),
+    }
 }
 
-// What is wrong with a whole line: 0 for its length, 1 for its end.
-fn whole(out: &mut [u8], at: usize, setting: bool, line: u64, wrong: u64) -> usize {
-    let numbers = [setting as u64, line, wrong];
-    forms::put(
-        out,
-        at,
-        b"[error|bad settings: line] #: [longer than 1100 octets|ends with a carriage return]\n",
-        &numbers,
-    )
+// `error N`, or `bad settings: line N` for a line of the settings
+fn line_head(page: &mut Output, setting: bool, line: u64) {
+    if setting {
+        write!(page, "bad settings: line {line}");
+    } else {
+        write!(page, "error {line}");
+    }
 }
 
 // `error N: word W: `, or `bad settings: line N, word W: `
-fn word(out: &mut [u8], at: usize, setting: bool, line: u64, word: u64) -> usize {
-    let numbers = [setting as u64, line, setting as u64, word];
-    forms::put(
-        out,
-        at,
-        b"[error|bad settings: line] #[:|,] word #: ",
-        &numbers,
-    )
+fn word_head(page: &mut Output, setting: bool, line: u64, word: u64) {
+    line_head(page, setting, line);
+    page.text(if setting { b", " } else { b": " });
+    write!(page, "word {word}: ");
 }
 
 // Why a line, an event or a setting, cannot be read. A port in front is a word more.
-pub fn unread(
-    out: &mut [u8],
-    at: usize,
-    setting: bool,
-    line: u64,
-    port: bool,
-    why: Unread,
-) -> usize {
+pub fn unread(page: &mut Output, setting: bool, line: u64, port: Option<u8>, why: Unread) {
     match why {
-        Unread::Long => whole(out, at, setting, line, 0),
-        Unread::Return => whole(out, at, setting, line, 1),
+        Unread::Long => {
+            line_head(page, setting, line);
+            page.text(b": longer than 1100 octets\n");
+        }
+        Unread::Return => {
+            line_head(page, setting, line);
+            page.text(b": ends with a carriage return\n");
+        }
         Unread::Word(n, d) => {
-            let number = std::num::wrapping_add_u64(n as u64, port as u64);
-            let behind = word(out, at, setting, line, number);
-            due(out, behind, d)
+            let word = (n as u64).wrapping_add(u64::from(port.is_some()));
+            word_head(page, setting, line, word);
+            due(page, d);
         }
     }
 }
 
 // A line of the settings that is missing.
-pub fn missing(out: &mut [u8], at: usize, line: u64, name: Name) -> usize {
-    let behind = word(out, at, true, line, 1);
-    due(out, behind, Due::Field(Field::Word(name)))
+pub fn missing(page: &mut Output, line: u64, name: Name) {
+    word_head(page, true, line, 1);
+    due(page, Due::Field(Field::Word(name)));
 }
 
 // A line of the settings for another port than the one due.
-pub fn port_due(out: &mut [u8], at: usize, line: u64, port: u8) -> usize {
-    let numbers = [line, port as u64];
-    forms::put(
-        out,
-        at,
-        b"bad settings: line #, word 1: port # is due\n",
-        &numbers,
-    )
+pub fn port_due(page: &mut Output, line: u64, port: u8) {
+    writeln!(
+        page,
+        "bad settings: line {line}, word 1: port {port} is due"
+    );
 }
 
 // The settings of a port that had them before.
-pub fn another_due(out: &mut [u8], at: usize, line: u64) -> usize {
-    let numbers = [line];
-    forms::put(
-        out,
-        at,
-        b"bad settings: line #, word 1: another port is due\n",
-        &numbers,
-    )
-}
-
-// A fault's place among the forms of `reason`, and its numbers.
-fn fault_numbers(f: Fault) -> [u64; 3] {
-    match f {
-        Fault::None => [0, 0, 0],
-        Fault::Length(n, due) => [1, n as u64, due as u64],
-        Fault::Ragged(n) => [2, n as u64, 0],
-        Fault::Group(p, g) => [3, p as u64, g as u64],
-        Fault::Sum(n) => [4, n as u64, 0],
-        Fault::Classes(n) => [5, n as u64, 0],
-        Fault::Ones(n, m) => [6, n as u64, m as u64],
-        Fault::Entries(n) => [7, n as u64, 0],
-        Fault::Foreign(i) => [8, i as u64, 0],
-        Fault::Again(i, j) => [9, i as u64, j as u64],
-        Fault::Selector(i, x) => [10, i as u64, x as u64],
-    }
+pub fn another_due(page: &mut Output, line: u64) {
+    writeln!(
+        page,
+        "bad settings: line {line}, word 1: another port is due"
+    );
 }
 
 // Why a setting is invalid.
-fn reason(out: &mut [u8], at: usize, f: Fault) -> usize {
-    let x = fault_numbers(f);
-    let numbers = [x[1], x[2]];
-    let form = forms::picked(
-        b"|# octets, not #\n|# octets, not a multiple of 6\n|priority # has group #\n|the percentages sum to #\n|# classes\n|# ones in the mask, # classes\n|# entries\n|entry # is foreign\n|entries # and # have the same selector and id\n|entry # has selector #\n",
-        x[0],
-    );
-    forms::put(out, at, form, &numbers)
+fn reason(page: &mut Output, f: Fault) {
+    match f {
+        Fault::Length(n, due) => writeln!(page, "{n} octets, not {due}"),
+        Fault::Ragged(n) => writeln!(page, "{n} octets, not a multiple of 6"),
+        Fault::Group(p, g) => writeln!(page, "priority {p} has group {g}"),
+        Fault::Sum(n) => writeln!(page, "the percentages sum to {n}"),
+        Fault::Classes(n) => writeln!(page, "{n} classes"),
+        Fault::Ones(n, m) => writeln!(page, "{n} ones in the mask, {m} classes"),
+        Fault::Entries(n) => writeln!(page, "{n} entries"),
+        Fault::Foreign(i) => writeln!(page, "entry {i} is foreign"),
+        Fault::Again(i, j) => writeln!(page, "entries {i} and {j} have the same selector and id"),
+        Fault::Selector(i, x) => writeln!(page, "entry {i} has selector {x}"),
+    }
 }
 
 // `refused 9 invalid-setting: WHY`
-pub fn invalid(out: &mut [u8], at: usize, f: Fault) -> usize {
-    let behind = printing::text(out, at, b"refused 9 invalid-setting: ");
-    reason(out, behind, f)
+pub fn invalid(page: &mut Output, f: Fault) {
+    page.text(b"refused 9 invalid-setting: ");
+    reason(page, f);
 }
 
 // `bad settings: line N: refused 9 invalid-setting: WHY`
-pub fn invalid_setting(out: &mut [u8], at: usize, line: u64, f: Fault) -> usize {
-    let numbers = [line];
-    let behind = forms::put(out, at, b"bad settings: line #: ", &numbers);
-    invalid(out, behind, f)
+pub fn invalid_setting(page: &mut Output, line: u64, f: Fault) {
+    write!(page, "bad settings: line {line}: ");
+    invalid(page, f);
 }

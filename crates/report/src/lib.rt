@@ -1,5 +1,5 @@
 // Text for people and scripts: answers, errors, states; configurations in words.
-// Each function puts its text at a place and gives the place behind it. Text that finds no room is left out.
+// Each function puts its text on a page. Text that finds no room there is left out.
 #![tactic(auto)]
 
 pub mod answers;

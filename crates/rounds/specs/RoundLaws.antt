@@ -1,38 +1,26 @@
 -- A round by its four calls, and both ends settled: a law for each way out. Assumes nothing.
-use Rattle.std.specs.Prelude.{ℕ, ◌≡◌, Bool, ◌&&◌, List, take}
+use Rattle.std.specs.Prelude.{ℕ, ◌≡◌, List, take, Ok, Err}
 use Rattle.std.proofs.Math.Path.{refl, ap}
 use Rattle.std.proofs.Common.{◌∙◌}
 use Rattle.std.proofs.Math.Option.{none}
-use Rattle.tlv.specs.declared.Refusal.{Refusal}
 use Rattle.port.specs.declared.Port.{Port}
 use Rattle.port.specs.declared.Event.{Event}
-use Rattle.port.specs.declared.Written.{Written}
-use Rattle.port.specs.declared.Written.TheVariants as wrote
+use Rattle.port.specs.Types.{Written}
 use Rattle.events.specs.PortEvents.{unchanged}
 use Rattle.port.specs.Writing.{Wrote}
-use Rattle.port.specs.Settled.{settled}
 use Rattle.handling.specs.Handling.{handled}
 use Rattle.rounds.specs.Rounds.{other, quiet, maybe, write_of, handle_of, calls, after_write, delivered, exec, exec_all}
 use Rattle.rounds.specs.Round.{Rounded}
 
 -- the delivery of what was written into an output
 unfoldable pub received : Port → Written → List ℕ → Event
-received p (wrote.Octets n) out = handled p (take n out)
-received p (wrote.Refused why) out = unchanged p
-
-module _ (p : Port) (w : Written) (out : List ℕ) where
-  pub received_frame : {n : ℕ} {part : List ℕ} {e : Event} → w ≡ wrote.Octets n → part ≡ take n out → e ≡ handled p part → e ≡ received p w out
-  unfolding received
-  received_frame ew ep ee = ee ∙ ap (handled p) ep ∙ rw ew refl
-
-  pub received_none : {why : Refusal} {e : Event} → w ≡ wrote.Refused why → e ≡ unchanged p → e ≡ received p w out
-  unfolding received
-  received_none ew ee = rw ew ee
+received p (Ok n) out = handled p (take n out)
+received p (Err why) out = unchanged p
 
 delivers : (p : Port) (w : Written) (out : List ℕ) → received p w out ≡ delivered p (after_write w out none)
 unfolding received delivered after_write
-delivers p (wrote.Octets n) out = refl
-delivers p (wrote.Refused why) out = refl
+delivers p (Ok n) out = refl
+delivers p (Err why) out = refl
 
 pub rounded : (l r : Port) (ol or : List ℕ) {wl wr : Written} {ol' or' : List ℕ} {x y : Event} → Wrote l ol wl ol' → Wrote r or wr or'
     → x ≡ received l wr or' → y ≡ received r wl ol'
@@ -47,6 +35,3 @@ rounded l r ol or el er ex ey =
       output_l = el.octets;
       output_r = er.octets;
     }
-
-pub both_settled_lem : (l r : Port) {a b : Bool} → a ≡ settled l → b ≡ settled r → (a && b) ≡ (settled l && settled r)
-both_settled_lem l r el er = λ i. el i && er i

@@ -1,12 +1,11 @@
 -- 01, Rounds of two ends: the calls of a list of rounds at two ports.
-use Rattle.std.specs.Prelude.{ℕ, ◌≡◌, Bool, true, false, ◌&&◌, List, [], ◌∷◌, ◌++◌, take}
+use Rattle.tlv.specs.Refusals.{rejection}
+use Rattle.std.specs.Prelude.{ℕ, ◌≡◌, Bool, true, false, ◌&&◌, List, [], ◌∷◌, ◌++◌, take, Ok, Err}
 use Rattle.std.proofs.Math.Option.{Option, none, some}
 use Rattle.tlv.specs.declared.Refusal.{Refusal}
 use Rattle.port.specs.declared.Port.{Port}
 use Rattle.port.specs.declared.Event.{Event}
-use Rattle.port.specs.declared.Written.{Written}
-use Rattle.port.specs.declared.Written.TheVariants as wrote
-use Rattle.port.specs.declared.Answer.TheVariants as answer
+use Rattle.port.specs.Types.{Written}
 use Rattle.port.specs.Writing.{written, output}
 use Rattle.events.specs.PortEvents.{unchanged}
 use Rattle.handling.specs.Handling.{handled}
@@ -41,8 +40,8 @@ pub data Call : Type 0 where
 
 -- the frame on its way after a write: the octets that now stand in the output
 unfoldable pub after_write : Written → List ℕ → Option (List ℕ) → Option (List ℕ)
-after_write (wrote.Octets n) out before = some (take n out)
-after_write (wrote.Refused why) out before = before
+after_write (Ok n) out before = some (take n out)
+after_write (Err why) out before = before
 
 abbrev pub on_its_way : Port → List ℕ → Option (List ℕ) → Option (List ℕ)
 on_its_way p out before = after_write (written p out) (output p out) before
@@ -127,13 +126,13 @@ lossy_rounds (r ∷ rs) = calls r.losses r.round ++ lossy_rounds rs
 -- ---- each call answers as its name says, in the state that it meets
 
 abbrev pub RefusesWrite : Port → List ℕ → Type 0
-RefusesWrite p out = (why : Refusal) × (written p out ≡ wrote.Refused why)
+RefusesWrite p out = (why : Refusal) × (written p out ≡ Err why)
 
 abbrev pub Accepts : Port → List ℕ → Type 0
-Accepts p out = (n : ℕ) × (written p out ≡ wrote.Octets n)
+Accepts p out = (n : ℕ) × (written p out ≡ Ok n)
 
 abbrev pub RefusesFrame : Port → List ℕ → Type 0
-RefusesFrame p o = (why : Refusal) × (place : ℕ) × ((handled p o).answer ≡ answer.Refused why place)
+RefusesFrame p o = (why : Refusal) × (place : ℕ) × ((handled p o).answer ≡ Err (rejection why place))
 
 abbrev pub Answers : Call → Ends → Type 0
 Answers (refused (write left out)) c = RefusesWrite c.l out

@@ -18,16 +18,13 @@ pub struct Pair {
 }
 
 // Gives a port the frame that the other end wrote into `out`; where that write was refused, nothing happens.
+#[tactic(auto, unfolding(crate::specs::RoundLaws::received))]
 fn deliver(p: Port, w: Written, out: &[u8]) -> Event
     ensures { result ≡ received p w out.now }
 {
     match w {
-        Written::Octets(n) => {
-            return handling::handle(p, octets::first(out, n));
-        }
-        Written::Refused(_) => {
-            return events::unchanged(p);
-        }
+        Ok(n) => handling::handle(p, octets::first(out, n)),
+        Err(_) => events::unchanged(p),
     }
 }
 
@@ -40,15 +37,11 @@ pub fn round(l: Port, r: Port, out_l: &mut [u8], out_r: &mut [u8]) -> Pair
     let wrote_r = port::writing::write(r, out_r);
     let at_left = deliver(l, wrote_r, out_r);
     let at_right = deliver(r, wrote_l, out_l);
-    let left = at_left.port;
-    let right = at_right.port;
-    let of_left = at_left.notices;
-    let of_right = at_right.notices;
     Pair {
-        left: left,
-        right: right,
-        of_left: of_left,
-        of_right: of_right,
+        left: at_left.port,
+        right: at_right.port,
+        of_left: at_left.notices,
+        of_right: at_right.notices,
     }
 }
 
@@ -56,7 +49,5 @@ pub fn round(l: Port, r: Port, out_l: &mut [u8], out_r: &mut [u8]) -> Pair
 pub fn settled(l: Port, r: Port) -> bool
     ensures { result ≡ (settled l && settled r) }
 {
-    let left = events::settled(l);
-    let right = events::settled(r);
-    left & right
+    events::settled(l) && events::settled(r)
 }

@@ -6,7 +6,7 @@ use mathlib.Core.Logic.{◌⊎◌, inl, inr}
 use mathlib.Core.Bool.{Bool, true, false, not, ◌&&◌, ◌||◌, beq, false≢true}
 use mathlib.Core.List.{List}
 use borrow.Author.Tests.{not-false, eqb-true}
-use Rattle.std.specs.Prelude.{if◌then◌else◌}
+use Rattle.std.specs.Prelude.{if◌then◌else◌, None}
 use Rattle.octets.specs.Words.{◌is◌}
 use Rattle.octets.specs.Octets.{same}
 use Rattle.octets.specs.Laws.{and_left, and_right, same_is}
@@ -23,7 +23,6 @@ use Rattle.machine.specs.State.{next, fresh_at, with_outcome, present, sub_tlv, 
 use Rattle.turn.specs.Turn.{acknowledged, received}
 use Rattle.machine.specs.StateLaws.{changed_shown}
 use Rattle.port.specs.declared.Port.{Port}
-use Rattle.port.specs.declared.Raised.TheVariants as raised
 use Rattle.port.specs.Parts.{feature_of, some, with_control, release, running}
 use Rattle.sending.specs.Sending.{with_seq, unacknowledged, raises_seq_no, sent, step5, completed, fresh_port}
 use Rattle.events.specs.PortEvents.{event, unchanged, refused}
@@ -328,7 +327,7 @@ module _ (p : Port) where
             → Local
             (if a then
             if b then unchanged p
-            else event raised.Nothing p (if c then completed p (with_feature p g (reset g n s (feature_of p g))) else fresh_port (with_feature p g (with_setting (feature_of p g) s)))
+            else event None p (if c then completed p (with_feature p g (reset g n s (feature_of p g))) else fresh_port (with_feature p g (with_setting (feature_of p g) s)))
             else refused InvalidSetting p).port
         by false b c e = unmoved
         by true true c e = unmoved

@@ -1,4 +1,5 @@
 -- 02, E7: that no end is restarted and none is told that its peer is gone is needed, by an exchange each. Assumes nothing.
+use Rattle.std.specs.Prelude.{Ok}
 use Prim.Native.Nat.{ℕ, ◌<◌}
 use native.Mathlib.Omega.{arith}
 use mathlib.Core.Path.{◌≡◌, refl, sym, ap, ◌∙◌, subst}
@@ -15,7 +16,6 @@ use Rattle.reading.specs.Reading.{walked, read_frame}
 use Rattle.tlv.specs.Revisions as revisions
 use Rattle.reading.specs.Revisions as revising
 use Rattle.tlv.specs.declared.Revision.TheVariants.{Rev101}
-use Rattle.contents.specs.declared.Reading.TheVariants.{Accepted}
 use Rattle.contents.specs.declared.Contents.{Contents}
 use Rattle.parameters.specs.declared.Feature.{Feature}
 use Rattle.parameters.specs.declared.Feature.TheVariants.{Groups, Flow, Applications}
@@ -137,7 +137,7 @@ frame_written : ((happened (call (writes left lent)) start).from_l ≡ some writ
 unfolding start created desired versions switches on lent parameters.feature_number parameters.is_ours parameters.ours_of parameters.ours parameters.stored parameters.content machine.fresh_at machine.release_tlv writing.sub_tlvs writing.frame writing.written writing.output sending.unacknowledged sending.raises_seq_no sending.sent creation.started ends.after_write ends.exec happened
 frame_written = (refl, (26, refl))
 
-written_read : read_frame written ≡ Accepted (walked written).contents
+written_read : read_frame written ≡ Ok (walked written).contents
 unfolding layout.head_at contents.found_again contents.counts contents.noted reading.onward reading.walk_from reading.walked layout.is_dcbx reading.judged_control reading.read_frame same
 written_read = refl
 
@@ -150,14 +150,14 @@ not_carried : (o : List ℕ) → some written ≡ some o → Carries Flow presen
 unfolding parameters.feature_number
 not_carried o e k =
     let is : o ≡ written = cc in
-    let read : read_frame written ≡ Accepted k.contents = subst (λ z. read_frame z ≡ Accepted k.contents) is k.read in
+    let read : read_frame written ≡ Ok k.contents = subst (λ z. read_frame z ≡ Ok k.contents) is k.read in
     let contents : k.contents ≡ (walked written).contents = accepted_same (sym read ∙ written_read) in
     let four : 4 ≡ get_or (has_of o k.contents Flow).value 5 0 = ap (λ z. get_or z 7 0) k.same in
     let eight : get_or (has_of o k.contents Flow).value 5 0 ≡ 8 = (λ i. get_or (has_of (is i) (contents i) Flow).value 5 0) ∙ last_octet in
     let z : ◌≡◌ {A = ℕ} 4 8 = four ∙ eight in
     omega arith
   where
-    accepted_same : {a b : Contents} → Accepted a ≡ Accepted b → a ≡ b
+    accepted_same : {a b : Contents} → Ok a ≡ Ok b → a ≡ b
     accepted_same e = cc
 
 -- ---- what the left end has become

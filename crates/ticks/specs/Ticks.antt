@@ -1,10 +1,9 @@
 -- 02, E7, What Syncd really says: "The desk shows a green tick when a feature is synchronised. .. show that a tick on an advertised feature at one
 -- end means the other has handled a frame carrying that feature's present sub-TLV."
-use Rattle.std.specs.Prelude.{ℕ, ◌≤◌, ◌≡◌, true, false, List, [], ◌∷◌, ◌++◌, map, length}
+use Rattle.std.specs.Prelude.{ℕ, ◌≤◌, ◌≡◌, true, false, List, [], ◌∷◌, ◌++◌, map, length, Ok}
 use Rattle.std.proofs.Math.Option.{Option, some}
 use Rattle.octets.specs.Octets.{headed}
 use Rattle.contents.specs.declared.Contents.{Contents}
-use Rattle.contents.specs.declared.Reading.TheVariants.{Accepted}
 use Rattle.reading.specs.Reading.{read_frame}
 use Rattle.reading.specs.Revisions.{read_for}
 use Rattle.parameters.specs.declared.Feature.{Feature}
@@ -78,7 +77,7 @@ pub record PastStep3 (p : Port) (octets : List ℕ) : Type 0 where
   pub runs : running p ≡ true
   pub single : p.several ≡ false
   pub contents : Contents
-  pub accepted : read_for p.revision octets ≡ Accepted contents
+  pub accepted : read_for p.revision octets ≡ Ok contents
   pub control : contents.control.count ≡ 1
   pub version : (message octets contents).oper ≡ lower p.control.max (message octets contents).max
 
@@ -86,7 +85,7 @@ pub record PastStep3 (p : Port) (octets : List ℕ) : Type 0 where
 -- of Rev 1.0 passes applications over.)
 pub record Carries (f : Feature) (tlv octets : List ℕ) : Type 0 where
   pub contents : Contents
-  pub read : read_frame octets ≡ Accepted contents
+  pub read : read_frame octets ≡ Ok contents
   pub once : (has_of octets contents f).count ≡ 1
   pub same : tlv ≡ headed (feature_number f) (has_of octets contents f).value
 

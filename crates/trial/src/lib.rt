@@ -27,44 +27,28 @@
 
 ghost use Rattle.std.specs.Prelude.{◌<◌, ◌≤◌, length};
 
+use buffer::Writer;
+
 pub mod steps;
 
-// Where the step that begins at `from` ends: at the end of the script where it says more.
-fn step_end(script: &[u8], from: usize) -> usize
-    requires { from < length script.now }
-    ensures { (from < result) × (result ≤ length script.now) }
+// Where the first step of a script ends: at the end of the script where it says more.
+fn step_end(script: &[u8]) -> usize
+    requires { 0 < length script.now }
+    ensures { (0 < result) × (result ≤ length script.now) }
 {
-    let left = script.len() - from;
-    let size = 2 + buffer::number2(script, from);
-    if left < size {
-        return script.len();
-    }
-    from + size
+    let size = 2 + buffer::number2(script, 0);
+    size.min(script.len())
 }
 
 // Runs a script and gives the number of octets written; it stops where `out` is full.
 pub fn run(script: &[u8], out: &mut [u8]) -> usize {
     let mut held = recorder::blank();
-    let mut at: usize = 0;
-    let mut from: usize = 0;
-    while from < script.len() {
-        if out.len() <= at {
-            return at;
-        }
-        let end = step_end(script, from);
-        let step = octets::from(&script[from..end], 2);
-        from = end;
-        if steps::is_look(step) {
-            at = steps::look(held, at, out);
-            continue;
-        }
-        let i = recorder::place_of(steps::port_of(step));
-        let left = steps::run(held.ports[i], held.log, step, at, out);
-        let port = left.port;
-        let log = left.log;
-        held.ports[i] = port;
-        held.log = log;
-        at = left.at;
+    let mut w = Writer::new(out);
+    let mut rest = script;
+    while !rest.is_empty() && !w.is_full() {
+        let (step, behind) = rest.split_at(step_end(rest));
+        steps::run(&mut held, octets::from(step, 2), &mut w);
+        rest = behind;
     }
-    at
+    w.at()
 }

@@ -1,18 +1,24 @@
 // The steps of a script.
+use buffer::Writer;
 use feature::{State, Switches};
-use logging::{Taken, Took};
-use notices::Log;
-use port::{Answer, Control, Event, Flag, Notices, Port, Raised, Versions, Written};
+use logging::Taken;
+use notices::{Log, Notice};
+use port::{Answer, Control, Event, Flag, Notices, Port, Versions, Written};
 use recorder::{Change, Recorder};
 use repeating::Repetition;
 use tlv::{Refusal, Revision};
 
-// What a step leaves: the port at hand, the log, and the place of the output.
+// What a step asks for, with the octets that belong to it.
 #[derive(Clone, Copy)]
-pub struct Left {
-    pub port: Port,
-    pub log: Log,
-    pub at: usize,
+enum Step<'a> {
+    Create(&'a [u8]),
+    Frame(&'a [u8]),
+    Change(Change, &'a [u8]),
+    Write(usize),
+    Take,
+    Numbers(&'a [u8]),
+    Dropped(u32),
+    Look,
 }
 
 // What is written of an answer before the state; `raised` has the numbers of the notices raised, of the port and of features 2
@@ -38,18 +44,9 @@ struct Given {
 
 // ---- what stands in a step
 
-pub fn port_of(step: &[u8]) -> u8 {
-    octets::octet(step, 1)
-}
-
-// Whether the states of all four ports are asked for.
-pub fn is_look(step: &[u8]) -> bool {
-    octets::octet(step, 0) == 9
-}
-
 // Whether a number is one of the four ports'.
 fn is_port(n: u8) -> bool {
-    (1 <= n) & (n <= 4)
+    (1..=4).contains(&n)
 }
 
 // The switches of an octet.
@@ -62,24 +59,19 @@ fn switches(x: u8) -> Switches {
 }
 
 fn revision(x: u8) -> Revision {
-    if x == 1 {
-        return Revision::Rev10;
+    match x {
+        1 => Revision::Rev10,
+        _ => Revision::Rev101,
     }
-    Revision::Rev101
 }
 
 fn versions(body: &[u8]) -> Versions {
-    let rev = revision(octets::octet(body, 0));
-    let control = octets::octet(body, 1);
-    let groups = octets::octet(body, 2);
-    let flow = octets::octet(body, 4);
-    let applications = octets::octet(body, 6);
     Versions {
-        revision: rev,
-        control: control,
-        groups: groups,
-        flow: flow,
-        applications: applications,
+        revision: revision(octets::octet(body, 0)),
+        control: octets::octet(body, 1),
+        groups: octets::octet(body, 2),
+        flow: octets::octet(body, 4),
+        applications: octets::octet(body, 6),
     }
 }
 
@@ -92,26 +84,38 @@ fn flag(number: u8) -> Flag {
     }
 }
 
-// A peer that is gone, a flag or a setting change.
-fn change_of(kind: u8, body: &[u8]) -> Change {
+// By the step's first octet. Only a setting change has octets beside what it says.
+fn step_of(step: &[u8]) -> Step<'_> {
+    let body = octets::from(step, 2);
     let first = octets::octet(body, 0);
     let second = octets::octet(body, 1);
-    if kind == 2 {
-        return Change::PeerGone;
+    match octets::octet(step, 0) {
+        0 => Step::Create(body),
+        1 => Step::Frame(body),
+        2 => Step::Change(Change::PeerGone, octets::from(body, 2)),
+        3 => Step::Change(
+            Change::Flag(flag(first), second == 1),
+            octets::from(body, 2),
+        ),
+        4 => Step::Change(
+            Change::Setting(first, switches(second)),
+            octets::from(body, 2),
+        ),
+        5 => Step::Write(buffer::number2(body, 0)),
+        6 => Step::Take,
+        7 => Step::Numbers(body),
+        9 => Step::Look,
+        _ => Step::Dropped(octets::numbers::number4(body, 0)),
     }
-    if kind == 3 {
-        return Change::Flag(flag(first), second == 1);
-    }
-    Change::Setting(first, switches(second))
 }
 
 // ---- what is told
 
-fn refused(why: Refusal, place: usize) -> Told {
-    let number = tlv::refusal_number(why);
+// Where an answer has nothing but zeros.
+fn nothing() -> Told {
     Told {
-        refusal: number,
-        place: place,
+        refusal: 0,
+        place: 0,
         wish: false,
         length: 0,
         notice: 0,
@@ -120,89 +124,78 @@ fn refused(why: Refusal, place: usize) -> Told {
     }
 }
 
-fn done(wish: bool, length: usize, notice: u8, feature: u8) -> Told {
+fn refused(why: Refusal, place: usize) -> Told {
     Told {
-        refusal: 0,
-        place: 0,
-        wish: wish,
-        length: length,
-        notice: notice,
-        feature: feature,
-        raised: [0; 4],
+        refusal: u8::from(why),
+        place: place,
+        ..nothing()
     }
 }
 
 fn raised(n: Notices) -> [u8; 4] {
-    let port = n.port;
-    let groups = n.groups;
-    let flow = n.flow;
-    let applications = n.applications;
-    let of_port = events::raised_number(port);
-    let of_groups = events::raised_number(groups);
-    let of_flow = events::raised_number(flow);
-    let of_applications = events::raised_number(applications);
-    [of_port, of_groups, of_flow, of_applications]
+    [n.port, n.groups, n.flow, n.applications].map(events::raised_number)
 }
 
 fn answer_of(x: Answer) -> Told {
     match x {
-        Answer::Done(wish) => done(wish, 0, 0, 0),
-        Answer::Refused(why, place) => refused(why, place),
+        Ok(wish) => Told {
+            wish: wish,
+            ..nothing()
+        },
+        Err(r) => refused(r.why, r.place),
     }
 }
 
 fn answered(x: Answer, n: Notices) -> Told {
-    let mut told = answer_of(x);
-    let numbers = raised(n);
-    told.raised = numbers;
-    told
+    Told {
+        raised: raised(n),
+        ..answer_of(x)
+    }
 }
 
-fn took(x: Took) -> Told {
+fn took(x: Result<Notice, Refusal>) -> Told {
     match x {
-        Took::Notice(n) => {
-            let kind = n.kind;
-            done(false, 0, notices::notice_number(kind), n.feature)
-        }
-        Took::Refused(why) => refused(why, 0),
+        Ok(n) => Told {
+            notice: u8::from(n.kind),
+            feature: dump::feature_place(n.feature),
+            ..nothing()
+        },
+        Err(why) => refused(why, 0),
     }
 }
 
 fn wrote(x: Written) -> Told {
     match x {
-        Written::Octets(n) => done(false, n, 0, 0),
-        Written::Refused(why) => refused(why, 0),
+        Ok(n) => Told {
+            length: n,
+            ..nothing()
+        },
+        Err(why) => refused(why, 0),
     }
 }
 
-fn put_told(out: &mut [u8], at: usize, x: Told) -> usize {
-    let octets = [
-        x.refusal,
-        (x.place / 256 % 256) as u8,
-        (x.place % 256) as u8,
-        x.wish as u8,
-        (x.length / 256 % 256) as u8,
-        (x.length % 256) as u8,
-        x.notice,
-        x.feature,
-    ];
-    let behind = buffer::put_all(out, at, &octets);
-    buffer::put_all(out, behind, &x.raised)
+fn put_told(w: &mut Writer, x: &Told) {
+    w.put(x.refusal);
+    w.put2(x.place);
+    w.put(u8::from(x.wish));
+    w.put2(x.length);
+    w.put(x.notice);
+    w.put(x.feature);
+    w.put_all(&x.raised);
 }
 
 // Writes the state of port `n`, which is `p`, or nothing where the number is no port's.
-fn put_state(out: &mut [u8], at: usize, n: u8, p: Port) -> usize {
+fn put_state(w: &mut Writer, n: u8, p: &Port) {
     if is_port(n) {
-        return dump::put_port(out, at, p);
+        dump::put_port(w, p);
     }
-    at
 }
 
 // Writes what is told, then the state of the port, then the log.
-fn tell(out: &mut [u8], at: usize, told: Told, n: u8, p: Port, l: Log) -> usize {
-    let port = put_told(out, at, told);
-    let log = put_state(out, port, n, p);
-    dump::put_log(out, log, l)
+fn tell(w: &mut Writer, told: &Told, n: u8, p: &Port, l: &Log) {
+    put_told(w, told);
+    put_state(w, n, p);
+    dump::put_log(w, l);
 }
 
 // ---- events
@@ -228,164 +221,129 @@ pub fn create(n: u8, p: Port, body: &[u8]) -> Event {
 
 // What a frame does that repeats what is held of the peer (repeating/proofs/Reachable: `reachable_repeats`).
 fn repeated(p: Port, k: Repetition) -> Event {
-    let control = k.control;
-    let mut next = p;
-    next.control = control;
     Event {
-        answer: Answer::Done(k.wish),
-        port: next,
-        notices: Notices {
-            port: Raised::Nothing,
-            groups: Raised::Nothing,
-            flow: Raised::Nothing,
-            applications: Raised::Nothing,
+        answer: Ok(k.wish),
+        port: Port {
+            control: k.control,
+            ..p
         },
+        notices: events::silent(),
     }
 }
 
 // A frame. Where it repeats what is held it takes that way, so that the comparison runs over both.
-fn frame(n: u8, p: Port, body: &[u8]) -> Event {
-    let k = repeating::repeat(n, p, body);
-    if k.holds {
-        return repeated(p, k);
+fn frame(n: u8, p: Port, octets: &[u8]) -> Event {
+    match repeating::repeat(n, p, octets) {
+        Some(k) => repeated(p, k),
+        None => recorder::apply(n, p, Change::Frame, octets),
     }
-    recorder::apply(n, p, Change::Frame, body)
-}
-
-// A creation, or what may happen at a port; only a setting change has octets beside it.
-fn happen(n: u8, p: Port, kind: u8, body: &[u8]) -> Event {
-    if kind == 0 {
-        return create(n, p, body);
-    }
-    if kind == 1 {
-        return frame(n, p, body);
-    }
-    recorder::apply(n, p, change_of(kind, body), octets::from(body, 2))
 }
 
 fn given_event(n: u8, l: Log, e: Event) -> Given {
-    let answer = e.answer;
-    let notices = e.notices;
-    let port = e.port;
     Given {
-        told: answered(answer, notices),
-        port: port,
-        log: logging::keep(l, n, notices),
+        told: answered(e.answer, e.notices),
+        port: e.port,
+        log: logging::keep(l, n, e.notices),
     }
 }
 
 fn given_taken(p: Port, t: Taken) -> Given {
-    let answer = t.answer;
-    let log = t.log;
     Given {
-        told: took(answer),
+        told: took(t.answer),
         port: p,
-        log: log,
+        log: t.log,
     }
 }
 
-// ---- what is no event of document 01
+// ---- what is no event of a port
 
 fn with_sequence(x: State, sequence: u32) -> State {
-    let mut next = x;
-    next.sequence = sequence;
-    next
+    State {
+        sequence: sequence,
+        ..x
+    }
 }
 
 fn with_numbers(c: Control, body: &[u8]) -> Control {
-    let mut next = c;
-    next.seq = octets::numbers::number4(body, 0);
-    next.ack = octets::numbers::number4(body, 4);
-    next.rcvd = octets::numbers::number4(body, 8);
-    next
+    Control {
+        seq: octets::numbers::number4(body, 0),
+        ack: octets::numbers::number4(body, 4),
+        rcvd: octets::numbers::number4(body, 8),
+        ..c
+    }
 }
 
 // The numbers of control and of the features are set.
 fn numbers(p: Port, body: &[u8]) -> Port {
-    let mut next = p;
-    next.control = with_numbers(p.control, body);
-    next.groups = with_sequence(p.groups, octets::numbers::number4(body, 12));
-    next.flow = with_sequence(p.flow, octets::numbers::number4(body, 16));
-    next.applications = with_sequence(p.applications, octets::numbers::number4(body, 20));
-    next
+    Port {
+        control: with_numbers(p.control, body),
+        groups: with_sequence(p.groups, octets::numbers::number4(body, 12)),
+        flow: with_sequence(p.flow, octets::numbers::number4(body, 16)),
+        applications: with_sequence(p.applications, octets::numbers::number4(body, 20)),
+        ..p
+    }
 }
 
 // The dropped count of port `n` is set.
 fn dropped(l: Log, n: u8, count: u32) -> Log {
-    let i = recorder::place_of(n);
     let mut next = l;
-    next.dropped[i] = count;
+    next.dropped[recorder::place_of(n)] = count;
     next
-}
-
-fn given_set(n: u8, p: Port, l: Log, kind: u8, body: &[u8]) -> Given {
-    let mut g = Given {
-        told: done(false, 0, 0, 0),
-        port: p,
-        log: l,
-    };
-    if !is_port(n) {
-        return g;
-    }
-    if kind == 7 {
-        g.port = numbers(p, body);
-        return g;
-    }
-    g.log = dropped(l, n, octets::numbers::number4(body, 0));
-    g
 }
 
 // ---- steps
 
-// Every step that lends no output and leaves the other ports alone.
-fn event(n: u8, p: Port, l: Log, kind: u8, body: &[u8]) -> Given {
-    if kind < 5 {
-        return given_event(n, l, happen(n, p, kind, body));
+// Every step that lends no output and leaves the other ports alone. Numbers are set at the four ports alone.
+fn event(n: u8, p: Port, l: Log, step: Step) -> Given {
+    let same = Given {
+        told: nothing(),
+        port: p,
+        log: l,
+    };
+    match step {
+        Step::Create(body) => given_event(n, l, create(n, p, body)),
+        Step::Frame(octets) => given_event(n, l, frame(n, p, octets)),
+        Step::Change(change, octets) => given_event(n, l, recorder::apply(n, p, change, octets)),
+        Step::Take => given_taken(p, logging::take(n, l)),
+        Step::Numbers(body) if is_port(n) => Given {
+            port: numbers(p, body),
+            ..same
+        },
+        Step::Dropped(count) if is_port(n) => Given {
+            log: dropped(l, n, count),
+            ..same
+        },
+        _ => same,
     }
-    if kind == 6 {
-        return given_taken(p, logging::take(n, l));
-    }
-    given_set(n, p, l, kind, body)
 }
 
-// The lent output is the next `room` octets of `out`, as they are.
-fn write(n: u8, p: Port, l: Log, room: usize, at: usize, out: &mut [u8]) -> usize {
-    if out.len() < at {
-        return at;
-    }
-    let end = buffer::part_end(out.len(), at, room);
-    let w = recorder::write(n, p, &mut out[at..end]);
-    tell(out, end, wrote(w), n, p, l)
-}
-
-// Runs one step at the port that it names, which is `p`, and writes what it gives.
-pub fn run(p: Port, l: Log, step: &[u8], at: usize, out: &mut [u8]) -> Left {
-    let kind = octets::octet(step, 0);
-    let n = port_of(step);
-    let body = octets::from(step, 2);
-    if kind == 5 {
-        return Left {
-            port: p,
-            log: l,
-            at: write(n, p, l, buffer::number2(body, 0), at, out),
-        };
-    }
-    let g = event(n, p, l, kind, body);
-    let port = g.port;
-    let log = g.log;
-    Left {
-        port: port,
-        log: log,
-        at: tell(out, at, g.told, n, g.port, g.log),
-    }
+// The lent output is the next `room` octets, as they are.
+fn write(n: u8, p: Port, l: &Log, room: usize, w: &mut Writer) {
+    let written = recorder::write(n, p, w.lend(room));
+    tell(w, &wrote(written), n, &p, l);
 }
 
 // Writes that nothing happened, the states of all four ports and the log.
-pub fn look(r: Recorder, at: usize, out: &mut [u8]) -> usize {
-    let one = put_told(out, at, done(false, 0, 0, 0));
-    let two = dump::put_port(out, one, r.ports[0]);
-    let three = dump::put_port(out, two, r.ports[1]);
-    let four = dump::put_port(out, three, r.ports[2]);
-    let log = dump::put_port(out, four, r.ports[3]);
-    dump::put_log(out, log, r.log)
+fn look(r: &Recorder, w: &mut Writer) {
+    put_told(w, &nothing());
+    for p in &r.ports {
+        dump::put_port(w, p);
+    }
+    dump::put_log(w, &r.log);
+}
+
+// Runs one step, and writes what it gives.
+pub fn run(held: &mut Recorder, step: &[u8], w: &mut Writer) {
+    let n = octets::octet(step, 1);
+    let i = recorder::place_of(n);
+    match step_of(step) {
+        Step::Look => look(held, w),
+        Step::Write(room) => write(n, held.ports[i], &held.log, room, w),
+        step => {
+            let g = event(n, held.ports[i], held.log, step);
+            held.ports[i] = g.port;
+            held.log = g.log;
+            tell(w, &g.told, n, &g.port, &g.log);
+        }
+    }
 }

@@ -1,14 +1,13 @@
 -- What the rows of the worked table are computed from: the settings of document 01's W2 and their variants, frames made of its sub-TLVs,
 -- calls at a recorder, at its port 1 where any will do, and rounds between two.
-use Rattle.std.specs.Prelude.{ℕ, zero, suc, ◌/◌, ◌%◌, true, false, ◌&&◌, List, [], ◌∷◌, ◌++◌, map, length, drop, replicate, get_or, set, if◌then◌else◌}
+use Rattle.std.specs.Prelude.{ℕ, zero, suc, ◌/◌, ◌%◌, true, false, ◌&&◌, List, [], ◌∷◌, ◌++◌, map, length, drop, replicate, get_or, set, if◌then◌else◌, Ok, Err}
 use Prim.Native.String.{String}
 use Rattle.std.proofs.Math.Option.{none}
 use Rattle.std.proofs.Math.ListN as list
 use Rattle.octets.specs.Words.{◌is◌}
 use Rattle.octets.specs.Octets.{octets4}
 use Rattle.octets.specs.Texts.{text}
-use Rattle.contents.specs.declared.Reading.{Reading}
-use Rattle.contents.specs.declared.Reading.TheVariants as read
+use Rattle.contents.specs.Contents.{Reading}
 use Rattle.tlv.specs.Refusals.{Reply, refusal_number}
 use Rattle.tlv.specs.Layout as layout
 use Rattle.reading.specs.Reading as reading
@@ -76,8 +75,8 @@ frame_of sub_tlvs = layout.frame_head (length sub_tlvs) ++ sub_tlvs
 -- ---- reading: a frame's refusal number and its place, or what is asked of the message that it is
 
 unfoldable pub message_in : (admission.Message → List ℕ) → List ℕ → Reading → List ℕ
-message_in ask o (read.Refused why place) = refusal_number why ∷ place ∷ []
-message_in ask o (read.Accepted c) = ask (admission.message o c)
+message_in ask o (Err r) = refusal_number r.why ∷ r.place ∷ []
+message_in ask o (Ok c) = ask (admission.message o c)
 
 unfoldable pub reads : (admission.Message → List ℕ) → List ℕ → List ℕ
 reads ask o = message_in ask o (reading.read_frame o)
@@ -178,8 +177,8 @@ older_recorder = after blank (at 1 (older (desired 8 Applications)))
 
 -- how often a reader of a revision finds each type, 1 to 4
 unfoldable pub counts_in : Reading → List ℕ
-counts_in (read.Refused why place) = refusal_number why ∷ place ∷ []
-counts_in (read.Accepted c) = c.control.count ∷ c.groups.count ∷ c.flow.count ∷ c.applications.count ∷ []
+counts_in (Err r) = refusal_number r.why ∷ r.place ∷ []
+counts_in (Ok c) = c.control.count ∷ c.groups.count ∷ c.flow.count ∷ c.applications.count ∷ []
 
 -- 0 and the values, or a refusal's number and its place
 unfoldable pub spoken : Reply → List ℕ

@@ -2,5 +2,5 @@
 use Rattle.handling.proofs.HandlingLaws.{handle_refused}
 use Rattle.handling.proofs.handle.Goals as goal
 
-pub returns-in-Refused : goal.returns-in-Refused
-returns-in-Refused c = search handle_refused
+pub returns-in-Err : goal.returns-in-Err
+returns-in-Err c = search handle_refused

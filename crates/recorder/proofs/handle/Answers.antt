@@ -5,8 +5,8 @@ use Rattle.recorder.proofs.handle.Goals as goal
 pub returns-then-not-is_port : goal.returns-then-not-is_port
 returns-then-not-is_port c = search changed_nowhere
 
-pub returns-in-Refused : goal.returns-in-Refused
-returns-in-Refused c = search changed_refused
+pub returns-in-Err : goal.returns-in-Err
+returns-in-Err c = search changed_refused
 
-pub returns-in-Accepted : goal.returns-in-Accepted
-returns-in-Accepted c = search changed_handled
+pub returns-in-Ok : goal.returns-in-Ok
+returns-in-Ok c = search changed_handled

@@ -1,11 +1,6 @@
--- `trial::run` is safe and ends: each step ends behind where it began, within the script. Assumes nothing.
-use Prim.Native.Nat.{◌-◌, ◌≤◌}
-use lib.ListN.{length}
-use mathlib.Core.Path.{◌≡◌}
+-- `run` ends: each step takes some of the script. Assumes nothing.
+use Rattle.std.proofs.Common.{length}
 use Rattle.trial.proofs.run.Given as goal
 
-abbrev pub invariant-loop-from : goal.invariant-loop-from
-invariant-loop-from l = (l.from ≤ length l.script) × (length l.out ≡ length l.initial.out)
-
-abbrev pub decreases-loop-from : goal.decreases-loop-from
-decreases-loop-from l = length l.script - l.from
+abbrev pub decreases-loop-w : goal.decreases-loop-w
+decreases-loop-w l = length l.rest

@@ -1,9 +1,0 @@
--- `speed::write_alone` is safe and ends; the output keeps its length. Assumes nothing.
-use Rattle.std.proofs.Common.{◌≡◌, length}
-use Rattle.speed.proofs.write_alone.Given as goal
-
-abbrev pub invariant-loop-left : goal.invariant-loop-left
-invariant-loop-left l = length l.out ≡ length l.initial.out
-
-abbrev pub decreases-loop-left : goal.decreases-loop-left
-decreases-loop-left l = l.left
