@@ -11,6 +11,6 @@ returns-in-Some c =
 pub returns : goal.returns
 returns c = elim c.match-parse_event.branch [
   | in-Ok+in_default-told_by w ↦
-    other_passed c.args.t.now c.args.line.now (sym c.parse_event.ensures ∙ w.in-Ok.is) (sym w.told_by.ensures ∙ w.in_default-told_by.is) c.with_passed-t.ensures
+      other_passed c.args.t.now c.args.line.now (sym c.parse_event.ensures ∙ w.in-Ok.is) (sym w.told_by.ensures ∙ w.in_default-told_by.is) c.with_passed-t.ensures
   | in_default w ↦ other_unread c.args.t.now c.args.line.now (sym c.parse_event.ensures ∙ w.in_default.is) c.with_passed-t.ensures
 ]
