@@ -225,7 +225,7 @@ module _ (o : List ℕ) where
   found = walk_ends o (length o) 6 no_contents (omega arith)
 
   -- over the tests of 5, of 4 and of 3
-  by_past : (b : Bool) → Reads o (if b then Err (rejection PastEnd (walked o)).place else judged_control o (walked o).contents) (if b then 5 else of_controls)
+  by_past : (b : Bool) → Reads o (if b then Err (rejection PastEnd (walked o).place) else judged_control o (walked o).contents) (if b then 5 else of_controls)
   unfolding walked refusal_number place_beside
   by_past true = record { number = refl; place = found.place }
   by_past false =
@@ -233,7 +233,7 @@ module _ (o : List ℕ) where
 
   by_length : (b : Bool) →
       Reads o
-      (if not b then Err (rejection WrongLength 0) else if (walked o).past then Err (rejection PastEnd (walked o)).place else judged_control o (walked o).contents)
+      (if not b then Err (rejection WrongLength 0) else if (walked o).past then Err (rejection PastEnd (walked o).place) else judged_control o (walked o).contents)
       (if not b then 4 else if (walked o).past then 5 else of_controls)
   unfolding refusal_number place_beside
   by_length false = record { number = refl; place = refl }
@@ -243,7 +243,7 @@ module _ (o : List ℕ) where
       Reads o
       (if not b then Err (rejection NotDcbx 0)
       else if not (length_at o 0 + 2 is length o) then Err (rejection WrongLength 0)
-      else if (walked o).past then Err (rejection PastEnd (walked o)).place
+      else if (walked o).past then Err (rejection PastEnd (walked o).place)
       else judged_control o (walked o).contents)
       (if not b then 3 else if not (length_at o 0 is length (drop 2 o)) then 4 else if (walked o).past then 5 else of_controls)
   unfolding refusal_number is_dcbx place_beside

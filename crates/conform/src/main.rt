@@ -5,11 +5,10 @@ use conformance::Judging;
 use console::Input;
 use console::streams::Streams;
 use printing::Output;
-use settings::captures;
 use settings::captures::Course;
-use settings::program;
 use settings::program::Program;
 use settings::wrong::Wrong;
+use settings::{captures, program};
 
 // A capture, judged up to the first frame that is not due.
 #[derive(Clone, Copy)]
@@ -17,7 +16,7 @@ struct Judged(Judging);
 
 impl Course for Judged {
     fn feed(&mut self, octets: &[u8]) {
-        self.0.feed(octets);
+        conformance::feed(&mut self.0, octets);
     }
 
     fn lines(&self) -> u64 {
@@ -31,7 +30,7 @@ impl Course for Judged {
 
     // The verdict and what belongs to it.
     fn report(self, page: &mut Output) {
-        let judged = self.0.finish();
+        let judged = conformance::finish(self.0);
         let mut text = [0; 4096];
         let n = conformance::text::verdict(judged, &mut text);
         page.text(octets::first(&text, n));

@@ -18,7 +18,8 @@ const APPLICATIONS: u8 = 4;
 
 const CONTROL_LENGTH: usize = 10;
 
-// How often a type came, 2 standing for two or more, and where the value of the last stands.
+// How often a type came, 2 standing for two or more, and where the value of the last stands. `count` is a number and no enum: it
+// is counted up and compared with one, as the definitions and theorems over frames do (`found_again`, `outcome`).
 #[derive(Clone, Copy)]
 pub struct Found {
     pub count: u8,
@@ -76,8 +77,8 @@ pub fn note(s: &[u8], base: usize, c: Contents, kind: u8, start: usize, n: usize
     requires { Room base s.now start n }
     ensures { result ≡ noted_at base s.now c kind start n }
 {
-    let place = base + start;
     let mut next = c;
+    let place = base + start;
     if kind == CONTROL {
         next.control = found_again(c.control, place, n);
         return next;
@@ -85,13 +86,22 @@ pub fn note(s: &[u8], base: usize, c: Contents, kind: u8, start: usize, n: usize
     if !counts(s, start, n) {
         return c;
     }
+    // Each arm returns: joined behind the match, `next` is copied in pieces, and reading a frame takes three times as long.
     match kind {
-        GROUPS => next.groups = found_again(c.groups, place, n),
-        FLOW => next.flow = found_again(c.flow, place, n),
-        APPLICATIONS => next.applications = found_again(c.applications, place, n),
-        _ => {}
+        GROUPS => {
+            next.groups = found_again(c.groups, place, n);
+            return next;
+        }
+        FLOW => {
+            next.flow = found_again(c.flow, place, n);
+            return next;
+        }
+        APPLICATIONS => {
+            next.applications = found_again(c.applications, place, n);
+            return next;
+        }
+        _ => c,
     }
-    next
 }
 
 pub fn no_control() -> Control

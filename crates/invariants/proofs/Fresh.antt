@@ -2,7 +2,7 @@
 use Prim.Native.Nat.{ℕ, ◌<◌, ◌^◌}
 use native.Mathlib.Nat.{le_refl}
 use mathlib.Core.Path.{◌≡◌, refl, ap, ◌∙◌}
-use mathlib.Core.Bool.{Bool, true, false, ◌&&◌, false≢true}
+use mathlib.Core.Bool.{Bool, true, false, ◌&&◌}
 use lib.Dec.{lit<}
 use Rattle.std.specs.Prelude.{if◌then◌else◌}
 use Rattle.parameters.specs.declared.Feature.{Feature}
@@ -18,7 +18,7 @@ use Rattle.port.specs.Parts.{feature_of, with_control, with_features, presents, 
 use Rattle.sending.specs.Sending.{with_seq, raises_seq_no, sent, fresh_control, fresh_parts, fresh_port}
 use Rattle.port.specs.Sound.{SoundSetting, SoundState, SoundRelease, NoApplications, SoundPort}
 use Rattle.tlv.specs.Revisions.{has_applications}
-use Rattle.invariants.proofs.Soundness.{port_sound, present_sound, sent_sound}
+use Rattle.invariants.proofs.Soundness.{none_sound, port_sound, present_sound, sent_sound}
 
 -- ---- one feature
 
@@ -46,9 +46,9 @@ module _ (sequence max : ℕ) (s : Setting) where
 
   made_sound : (f : Feature) (b : Bool) → max < 256 → sequence < 2 ^ 32 → SoundSetting f s → SoundState f (made b)
   made_sound f true h n k =
-      record { max = h; oper = le_refl max; sequence = n; setting = k; peer = record { none = λ e. refl; some = λ e. absurd (false≢true e) }; adopts = refl; withheld = λ e. refl }
+      record { max = h; oper = le_refl max; sequence = n; setting = k; peer = none_sound f; adopts = refl; withheld = λ e. refl }
   made_sound f false h n k =
-      record { max = h; oper = le_refl max; sequence = n; setting = k; peer = record { none = λ e. refl; some = λ e. absurd (false≢true e) }; adopts = refl; withheld = λ e. refl }
+      record { max = h; oper = le_refl max; sequence = n; setting = k; peer = none_sound f; adopts = refl; withheld = λ e. refl }
 
   pub fresh_max : (fresh_at sequence max s).max ≡ max
   unfolding fresh_at

@@ -2,17 +2,16 @@
 use Prim.Native.Nat.{ℕ, ◌+◌, ◌<◌, ◌≤◌, ◌^◌, min}
 use native.Mathlib.Omega.{arith}
 use native.Mathlib.Nat.{min-le_left, le_refl, mod-lt}
-use mathlib.Core.Path.{◌≡◌, refl, sym, ap, ◌∙◌}
-use mathlib.Core.Bool.{Bool, true, false, not, ◌&&◌, ◌||◌, false≢true}
+use mathlib.Core.Path.{◌≡◌, refl, sym, ap, subst, ◌∙◌}
+use mathlib.Core.Bool.{Bool, true, false, not, ◌||◌, false≢true}
 use mathlib.Core.List.{List, []}
 use lib.ListN.{length, take, drop, length-take, get_or-eq_default}
 use lib.Seq.{get_or-take, get_or-drop}
 use lib.Dec.{lit<}
 use borrow.Author.Tests.{ltb-true, ltb-false}
-use Rattle.std.specs.Prelude.{if◌then◌else◌}
+use Rattle.std.specs.Prelude.{if◌then◌else◌, Option, None, Some}
 use Rattle.octets.specs.Words.{◌below◌, ◌is◌}
 use Rattle.octets.specs.Octets.{at, number4}
-use Rattle.octets.specs.Laws.{and_left}
 use Rattle.contents.specs.declared.Contents.{Contents}
 use Rattle.contents.specs.Contents.{value_of}
 use Rattle.tlv.specs.Revisions.{has_applications}
@@ -28,7 +27,7 @@ use Rattle.feature.specs.declared.Setting.{Setting}
 use Rattle.feature.specs.declared.Peer.{Peer}
 use Rattle.feature.specs.declared.Outcome.{Outcome}
 use Rattle.feature.specs.declared.State.{State}
-use Rattle.feature.specs.Outcome.{Received, oper_of, max_of, parameters_of, configuration, lower, held_peer, without_peer, judged, outcome}
+use Rattle.feature.specs.Outcome.{Received, oper_of, max_of, parameters_of, parameters_held, configuration, lower, held_peer, without_peer, judged, outcome}
 use Rattle.feature.specs.declared.Release.{Release}
 use Rattle.machine.specs.State.{next, with_outcome, present, changed, marked, setting_of}
 use Rattle.turn.specs.Turn.{control_twice, acknowledged, received}
@@ -49,23 +48,18 @@ sound_stored f o v =
     let e : content (stored (ours f o)) ≡ ours f o = content_stored (ours f o) (ours_length f o v) in
     record { whole = ap stored (sym e); own = ap (ours f) e ∙ ours_ours f o ∙ sym e; valid = ap (valid f) e ∙ valid_ours f o v }
 
--- no peer is held: none is adopted
-pub adopts_none : (s : Setting) (p : Peer) → p.held ≡ false → adopts_by s p ≡ false
-adopts_none s p n = rw n refl
-
-adopts_held : (s : Setting) (p : Peer) → adopts_by s p ≡ true → p.held ≡ true
-adopts_held s p e =
-    let a : Bool = p.held && s.enable in
-    and_left p.held s.enable (and_left a p.enable (and_left (a && p.enable) s.willing (and_left (a && p.enable && s.willing) (not p.willing) e)))
+-- no peer is held
+pub none_sound : (f : Feature) → SoundPeer f None
+none_sound f = record { some = λ p e. absurd (cc) }
 
 module _ (f : Feature) (max : ℕ) (s : Setting) (h : SoundSetting f s) where
   without_sound : (why : Reason) (oper : ℕ) (error : Bool) → oper ≤ max → SoundOutcome f max s (without_peer why oper error)
   without_sound why oper error k =
-      record { oper = k; peer = record { none = λ e. refl; some = λ e. absurd (false≢true e) }; adopts = refl }
+      record { oper = k; peer = none_sound f; adopts = refl }
 
-  module _ (oper : ℕ) (k : oper ≤ max) (p : Peer) (held : p.held ≡ true) (good : SoundParameters f p.parameters) where
-    held_sound : SoundPeer f p
-    held_sound = record { none = λ e. absurd (false≢true (sym e ∙ held)); some = λ e. good }
+  module _ (oper : ℕ) (k : oper ≤ max) (p : Peer) (good : SoundParameters f p.parameters) where
+    held_sound : SoundPeer f (Some p)
+    held_sound = record { some = λ q e. let d : p ≡ q = cc in subst (λ (r : Peer). SoundParameters f r.parameters) d good }
 
     pub judged_sound : SoundOutcome f max s (judged f s oper p)
     judged_sound =
@@ -76,7 +70,6 @@ module _ (f : Feature) (max : ℕ) (s : Setting) (h : SoundSetting f s) where
           adopts =
               ap (λ (o : Outcome). o.adopts) (judged_by_lem f s oper p)
               ∙ judged_by_adopts s.enable p.enable s.willing p.willing suits oper p
-              ∙ sym (ap (λ (b : Bool). b && s.enable && p.enable && s.willing && not p.willing) held)
               ∙ sym (ap (adopts_by s) (judged_peer f s oper p));
         }
 
@@ -94,7 +87,7 @@ module _ (f : Feature) (max : ℕ) (s : Setting) (h : SoundSetting f s) where
   ruled_sound oper low k l v false false true d e g = without_sound Bad oper true k
   ruled_sound oper low k l v false false false false e g = without_sound Waiting low false l
   ruled_sound oper low k l v false false false true false g = without_sound Bad low true l
-  ruled_sound oper low k l v false false false true true g = judged_sound low l (held_peer f v) refl (sound_stored f (parameters_of v) g)
+  ruled_sound oper low k l v false false false true true g = judged_sound low l (held_peer f v) (sound_stored f (parameters_of v) g)
 
   pub outcome_sound : (oper : ℕ) → oper ≤ max → (r : Received) → SoundOutcome f max s (outcome f max s oper r)
   unfolding outcome
@@ -176,8 +169,12 @@ marked_none seq x y h = either_none (changed Applications x y) _ y (record { set
 pub configuration_sound : (f : Feature) (x : State) → SoundState f x → SoundParameters f (configuration x.setting x.outcome)
 configuration_sound f x h = by x.outcome.adopts refl
   where
-    by : (b : Bool) → x.outcome.adopts ≡ b → SoundParameters f (if b then x.outcome.peer.parameters else x.setting.desired)
-    by true e = h.peer.some (adopts_held x.setting x.outcome.peer (sym h.adopts ∙ e))
+    held : (o : Option Peer) → x.outcome.peer ≡ o → adopts_by x.setting o ≡ true → SoundParameters f (parameters_held o)
+    held None e a = absurd (false≢true a)
+    held (Some p) e a = h.peer.some p e
+
+    by : (b : Bool) → x.outcome.adopts ≡ b → SoundParameters f (if b then parameters_held x.outcome.peer else x.setting.desired)
+    by true e = held x.outcome.peer refl (sym h.adopts ∙ e)
     by false e = h.setting.desired
 
 -- ---- the port

@@ -5,7 +5,7 @@ use mathlib.Core.Path.{◌≡◌, refl, sym, ap, ◌∙◌}
 use mathlib.Core.Bool.{Bool, true, false, not, beq, false≢true}
 use mathlib.Core.List.{List, []}
 use lib.Dec.{lit<}
-use Rattle.std.specs.Prelude.{if◌then◌else◌, None, Ok, Err}
+use Rattle.std.specs.Prelude.{if◌then◌else◌, Option, None, Some, Ok, Err}
 use Rattle.octets.specs.Words.{◌below◌, ◌is◌}
 use Rattle.octets.specs.Laws.{and_left, and_right}
 use Rattle.tlv.specs.declared.Refusal.{Refusal}
@@ -23,9 +23,10 @@ use Rattle.parameters.specs.StoringLaws.{content_stored}
 use Rattle.feature.specs.declared.Setting.{Setting}
 use Rattle.feature.specs.declared.Switches.{Switches}
 use Rattle.feature.specs.declared.Outcome.{Outcome}
+use Rattle.feature.specs.declared.Peer.{Peer}
 use Rattle.feature.specs.declared.State.{State}
-use Rattle.feature.specs.Outcome.{lower, judged}
-use Rattle.machine.specs.State.{next, fresh_at, fresh, stopped, setting_of, same_setting, judged_again, reset}
+use Rattle.feature.specs.Outcome.{lower}
+use Rattle.machine.specs.State.{next, fresh_at, fresh, stopped, setting_of, same_setting, again_with, judged_again, reset}
 use Rattle.port.specs.declared.Flag.{Flag}
 use Rattle.port.specs.declared.Flag.TheVariants.{Admin, Receive, Transmit, Several}
 use Rattle.port.specs.declared.Port.{Port}
@@ -39,9 +40,9 @@ use Rattle.flags.specs.Flags.{restarts, flag_notice, flag_set, flagged, peer_gon
 use Rattle.changes.specs.Changes.{with_feature, with_setting, setting_changed, set_to, changed_feature, changed_applications, changed_setting}
 use Rattle.admission.specs.Admission.{Message, message, met, breaks, with_broken, rejected}
 use Rattle.handling.specs.Handling.{twice, exchanged, once, steps1to4, frame_event, accepted, given, handled}
-use Rattle.port.specs.Sound.{SoundSetting, SoundState, SoundPort, InStep}
+use Rattle.port.specs.Sound.{SoundSetting, adopts_by, SoundState, SoundPort, InStep}
 use Rattle.invariants.proofs.Tests.{beq_not, each_true}
-use Rattle.invariants.proofs.Soundness.{Octets, sound_stored, adopts_none, judged_sound, next_small, port_sound, present_sound, sent_sound, completed_sound, steps_sound}
+use Rattle.invariants.proofs.Soundness.{Octets, sound_stored, judged_sound, next_small, port_sound, present_sound, sent_sound, completed_sound, steps_sound}
 use Rattle.invariants.proofs.Waiting.{AllStepped, AllReady, in_step, stepped, fresh_ready, fresh_stepped, sent_in_step, fresh_in_step, steps_in_step, set_in_step}
 use Rattle.invariants.proofs.Fresh.{fresh_max, fresh_setting, state_again, fresh_sound, sent_alike, runs_alike, fresh_kept, fresh_same, fresh_again}
 
@@ -133,7 +134,7 @@ handled_stands p o k h = by (running p) p.several (read_for p.revision o) refl
         → Standing (if not a then rejected NotRunning 0 p else if b then rejected SeveralNeighbours 0 p else given o x p).port
     by false b x r = rw (stopped_unmarked p h r) h
     by true true x r = running_stands _ (rejected_sound SeveralNeighbours 0 p h.sound) (rejected_in_step SeveralNeighbours 0 p h.steps) (rejected_runs SeveralNeighbours 0 p ∙ r)
-    by true false (Err r) r = running_stands _ (rejected_sound r.why r.place p h.sound) (rejected_in_step r.why r.place p h.steps) (rejected_runs r.why r.place p ∙ r)
+    by true false (Err x) r = running_stands _ (rejected_sound x.why x.place p h.sound) (rejected_in_step x.why x.place p h.steps) (rejected_runs x.why x.place p ∙ r)
     by true false (Ok c) r =
         running_stands (completed p (steps1to4 o c p)) (completed_sound p (steps1to4 o c p) (steps_sound o c p k h.sound)) (steps_in_step p h.steps r o c)
         (completed_runs p (steps1to4 o c p) ∙ steps_run p o c ∙ r)
@@ -248,7 +249,7 @@ setting_sound f w o e =
 
 module _ (f : Feature) (s : Setting) (k : SoundSetting f s) (x : State) (h : SoundState f x) where
   -- no peer is held, as on a stopped port
-  with_setting_sound : x.outcome.peer.held ≡ false → SoundState f (with_setting x s)
+  with_setting_sound : x.outcome.peer ≡ None → SoundState f (with_setting x s)
   with_setting_sound n =
       record {
         max = h.max;
@@ -256,7 +257,7 @@ module _ (f : Feature) (s : Setting) (k : SoundSetting f s) (x : State) (h : Sou
         sequence = h.sequence;
         setting = k;
         peer = h.peer;
-        adopts = h.adopts ∙ adopts_none x.setting x.outcome.peer n ∙ sym (adopts_none s x.outcome.peer n);
+        adopts = h.adopts ∙ ap (adopts_by x.setting) n ∙ sym (ap (adopts_by s) n);
         withheld = λ e. n;
       }
 
@@ -264,25 +265,15 @@ module _ (f : Feature) (s : Setting) (k : SoundSetting f s) (x : State) (h : Sou
   judged_again_sound : (seq : ℕ) → x.setting.advertise ≡ s.advertise
       → SoundState f (record { max = x.max; setting = s; outcome = judged_again f s x.outcome; syncd = x.syncd; sequence = x.sequence })
   unfolding judged_again
-  judged_again_sound seq same = by s.advertise x.outcome.peer.held refl refl
+  judged_again_sound seq same = by s.advertise refl
     where
       left : Bool → Outcome
       left mode = record { reason = x.outcome.reason; oper = x.outcome.oper; error = x.outcome.error; mode = mode; peer = x.outcome.peer; adopts = false }
 
-      by : (a b : Bool) → s.advertise ≡ a → x.outcome.peer.held ≡ b
-          → SoundState f
-          (record {
-            max = x.max;
-            setting = s;
-            outcome = if not a then left s.enable else if b then judged f s x.outcome.oper x.outcome.peer else left x.outcome.mode;
-            syncd = x.syncd;
-            sequence = x.sequence;
-          })
-      by false b a e =
-          let n : x.outcome.peer.held ≡ false = h.withheld (same ∙ a) in
-          record { max = h.max; oper = h.oper; sequence = h.sequence; setting = k; peer = h.peer; adopts = sym (adopts_none s x.outcome.peer n); withheld = λ e. n }
-      by true true a e =
-          let o = judged_sound f x.max s k x.outcome.oper h.oper x.outcome.peer e (h.peer.some e) in
+      on : (o : Option Peer) → x.outcome.peer ≡ o → s.advertise ≡ true
+          → SoundState f (record { max = x.max; setting = s; outcome = again_with f s x.outcome o; syncd = x.syncd; sequence = x.sequence })
+      on (Some p) e a =
+          let o = judged_sound f x.max s k x.outcome.oper h.oper p (h.peer.some p e) in
           record {
             max = h.max;
             oper = o.oper;
@@ -292,8 +283,22 @@ module _ (f : Feature) (s : Setting) (k : SoundSetting f s) (x : State) (h : Sou
             adopts = o.adopts;
             withheld = λ e. absurd (false≢true (sym e ∙ a));
           }
-      by true false a e =
-          record { max = h.max; oper = h.oper; sequence = h.sequence; setting = k; peer = h.peer; adopts = sym (adopts_none s x.outcome.peer e); withheld = λ _. e }
+      on None e a =
+          record { max = h.max; oper = h.oper; sequence = h.sequence; setting = k; peer = h.peer; adopts = sym (ap (adopts_by s) e); withheld = λ _. e }
+
+      by : (a : Bool) → s.advertise ≡ a
+          → SoundState f
+          (record {
+            max = x.max;
+            setting = s;
+            outcome = if not a then left s.enable else again_with f s x.outcome x.outcome.peer;
+            syncd = x.syncd;
+            sequence = x.sequence;
+          })
+      by false a =
+          let n : x.outcome.peer ≡ None = h.withheld (same ∙ a) in
+          record { max = h.max; oper = h.oper; sequence = h.sequence; setting = k; peer = h.peer; adopts = sym (ap (adopts_by s) n); withheld = λ e. n }
+      by true a = on x.outcome.peer refl a
 
   reset_sound : (seq : ℕ) → SoundState f (reset f seq s x)
   unfolding reset
@@ -336,15 +341,15 @@ feature_runs p Applications x = refl
 
 module _ (p : Port) (h : Standing p) where
   -- a stopped port holds no peer
-  none_held : (f : Feature) → running p ≡ false → (feature_of p f).outcome.peer.held ≡ false
+  none_held : (f : Feature) → running p ≡ false → (feature_of p f).outcome.peer ≡ None
   unfolding fresh_at
-  none_held f r = ap (λ (q : Port). (feature_of q f).outcome.peer.held) (sym (h.stopped r) ∙ fresh_still p _ refl r) ∙ by f
+  none_held f r = ap (λ (q : Port). (feature_of q f).outcome.peer) (sym (h.stopped r) ∙ fresh_still p _ refl r) ∙ by f
     where
-      without : (x : State) (b : Bool) → x.setting.advertise ≡ b → (fresh x.max x.setting).outcome.peer.held ≡ false
+      without : (x : State) (b : Bool) → x.setting.advertise ≡ b → (fresh x.max x.setting).outcome.peer ≡ None
       without x true a = rw a refl
       without x false a = rw a refl
 
-      by : (f : Feature) → (feature_of (still p) f).outcome.peer.held ≡ false
+      by : (f : Feature) → (feature_of (still p) f).outcome.peer ≡ None
       by Groups = without p.groups _ refl
       by Flow = without p.flow _ refl
       by Applications = without p.applications _ refl

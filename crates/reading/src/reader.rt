@@ -11,23 +11,25 @@ pub struct Reader<'a> {
     pub at: usize,
 }
 
-// At the first sub-TLV, behind the six octets at the frame's head.
-pub fn new<'a>(src: &'a [u8]) -> Reader<'a>
-    ensures { New src.entry result }
-{
-    Reader { src, at: 6 }
-}
+impl<'a> Reader<'a> {
+    // At the first sub-TLV, behind the six octets at the frame's head.
+    pub fn new(src: &'a [u8]) -> Reader<'a>
+        ensures { New src.entry result }
+    {
+        Reader { src, at: 6 }
+    }
 
-// What stands at the reader's place: a sub-TLV, one that runs over, or the end.
-pub fn next<'a>(r: Reader<'a>) -> Head
-    ensures { Next r.entry result }
-{
-    tlv::head_at(r.src, r.at)
-}
+    // What stands at the reader's place: a sub-TLV, one that runs over, or the end.
+    pub fn next(self) -> Head
+        ensures { Next self.entry result }
+    {
+        tlv::head_at(self.src, self.at)
+    }
 
-// The reader at another place, behind the sub-TLV that it handed out.
-pub fn moved<'a>(r: Reader<'a>, at: usize) -> Reader<'a>
-    ensures { Moved r.entry at result }
-{
-    Reader { src: r.src, at }
+    // The reader at another place, behind the sub-TLV that it handed out.
+    pub fn moved(self, at: usize) -> Reader<'a>
+        ensures { Moved self.entry at result }
+    {
+        Reader { src: self.src, at }
+    }
 }

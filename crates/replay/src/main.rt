@@ -4,11 +4,10 @@
 use console::Input;
 use console::streams::Streams;
 use printing::Output;
-use settings::captures;
 use settings::captures::Course;
-use settings::program;
 use settings::program::Program;
 use settings::wrong::Wrong;
+use settings::{captures, program};
 use tally::Replay;
 
 // A capture, replayed to its end.
@@ -17,7 +16,7 @@ struct Replayed(Replay);
 
 impl Course for Replayed {
     fn feed(&mut self, octets: &[u8]) {
-        self.0.feed(octets);
+        tally::feed(&mut self.0, octets);
     }
 
     fn lines(&self) -> u64 {
@@ -31,7 +30,7 @@ impl Course for Replayed {
 
     fn report(self, page: &mut Output) {
         let mut text = [0; 4096];
-        let n = tally::text::report(self.0.finish(), &mut text);
+        let n = tally::text::report(tally::finish(self.0), &mut text);
         page.text(octets::first(&text, n));
     }
 }

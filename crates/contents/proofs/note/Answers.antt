@@ -17,5 +17,5 @@ returns-in-3 c = search noted_flow
 pub returns-in-4 : goal.returns-in-4
 returns-in-4 c = search noted_applications
 
-pub returns-in_default : goal.returns-in_default
-returns-in_default c = search noted_other
+pub returns : goal.returns
+returns c = search noted_other
