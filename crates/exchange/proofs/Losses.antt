@@ -1,6 +1,6 @@
 -- What an end holds for a peer is the peer's own, whichever calls were made. Assumes nothing.
 use Prim.Native.Nat.{ℕ}
-use mathlib.Core.Path.{◌≡◌, refl, ap, sym, ◌∙◌}
+use mathlib.Core.Path.{◌≡◌, refl, ap, ◌∙◌}
 use mathlib.Core.Bool.{Bool, true, false}
 use mathlib.Core.List.{List}
 use mathlib.Core.Option.{Option, none, some}
@@ -33,7 +33,7 @@ module _ (f : Feature) (own peer : Side) (good : SoundParameters f peer.setting.
   outcome_own adv a old o =
       peer_is adv f own peer old o (Own peer) good (own_none peer)
       (λ t q e. let k : q ≡ held_of peer o.error = cc in
-          (a ∙ t, ap (λ (x : Peer). x.enable) k, ap (λ (x : Peer). x.willing) k, ap (λ (x : Peer). x.parameters) k))
+      (a ∙ t, ap (λ (x : Peer). x.enable) k, ap (λ (x : Peer). x.willing) k, ap (λ (x : Peer). x.parameters) k))
 
   marked_own : (c : Bool) (seq : ℕ) (o : Outcome) (x : Machine) → Own peer o.peer → Own peer (marked c seq o x).outcome.peer
   unfolding marked
