@@ -1,16 +1,17 @@
 -- The walk that looks for our own entries among those that came, each where the next is held. Assumes nothing.
-use Rattle.std.specs.Prelude.{ℕ, suc, ◌+◌, ◌-◌, ◌*◌, ◌%◌, ◌≤◌, ◌<◌, ◌≡◌, Bool, true, false, not, List, ◌++◌, take, drop}
+use Rattle.std.specs.Prelude.{ℕ, suc, ◌+◌, ◌-◌, ◌*◌, ◌%◌, ◌≤◌, ◌<◌, ◌≡◌, Bool, true, false, List, [], ◌++◌, take, drop, get_or}
 use Rattle.std.proofs.Common.{arith, add-one, sym, ap, ◌∙◌, length-append, take-add, take_all, take_at, drop_at, eq-eqb, ne_eqb, eqb-true}
 use Rattle.std.proofs.Math.Path.{refl}
-use Rattle.std.proofs.lemmas.Bool.{false≢true, eqb-false, not-true, not-false}
+use Rattle.std.proofs.lemmas.Bool.{false≢true, eqb-false}
 use Rattle.std.proofs.Math.ListN.{length}
 use Rattle.octets.specs.Words.{◌is◌}
 use Rattle.octets.specs.Octets.{same}
 use Rattle.octets.specs.Laws.{same_is, same_refl, unlike}
-use Rattle.parameters.specs.declared.Feature.{Feature}
-use Rattle.parameters.specs.declared.Feature.TheVariants.{Groups, Flow, Applications}
+use Rattle.parameters.specs.declared.Feature.TheVariants.{Applications}
 use Rattle.parameters.specs.Parameters.{entry_count, is_ours, ours_of, ours}
-use Rattle.applications.specs.OursLaws.{Begins, begins, ours_own, ours_foreign, own_long}
+use Rattle.applications.specs.Entries.{entries}
+use Rattle.applications.specs.EntriesLaws.{met_within, met_at, met_is, met_all}
+use Rattle.applications.specs.OursLaws.{Begins, begins, own_same, ours_own, ours_foreign, own_long}
 use Rattle.repeating.specs.Repeating.{holds_of}
 
 -- our own of the first i entries are the first `size` octets of what is held
@@ -53,14 +54,19 @@ module _ {p held : List ℕ} {size i : ℕ} where
   pub walked_part : Walked p held size i → 6 ≤ length held - size → size + 6 ≤ length held
   walked_part k l = omega (arith, k.room)
 
-  pub walked_foreign : {b : Bool} → Walked p held size i → i < entry_count p → b ≡ is_ours p i → not b ≡ true → Walked p held size (i + 1)
-  walked_foreign {b} k h e n =
-      let s : ours_of (i + 1) p ≡ ours_of i p = rw add-one (ours_foreign p i (sym e ∙ not-true b n)) in
+module _ {p held : List ℕ} {es : List (List ℕ)} {size i : ℕ} where
+  pub walked_foreign : {b : Bool} → Walked p held size i → es ≡ entries p → i < length es → b ≡ is_ours (get_or es i []) 0 → b ≡ false → Walked p held size (i + 1)
+  walked_foreign {b} k all m e n =
+      let h : i < entry_count p = met_within p all m in
+      let s : ours_of (i + 1) p ≡ ours_of i p = rw add-one (ours_foreign p i (sym (own_same (met_is p all m)) ∙ sym e ∙ n)) in
       record { whole = k.whole; within = omega arith; long = rw s k.long; room = k.room; octets = rw s k.octets }
 
-  module _ {b : Bool} (k : Walked p held size i) (h : i < entry_count p) (e : b ≡ is_ours p i) (n : not b ≡ false) where
+  module _ {b : Bool} (k : Walked p held size i) (all : es ≡ entries p) (m : i < length es) (e : b ≡ is_ours (get_or es i []) 0) (n : b ≡ true) where
+    h : i < entry_count p
+    h = met_within p all m
+
     own_here : is_ours p i ≡ true
-    own_here = sym e ∙ not-false b n
+    own_here = sym (own_same (met_is p all m)) ∙ sym e ∙ n
 
     longer : length (ours_of (suc i) p) ≡ size + 6
     longer = own_long p i h own_here ∙ ap (λ (m : ℕ). m + 6) k.long
@@ -74,11 +80,11 @@ module _ {p held : List ℕ} {size i : ℕ} where
         by false y = sym y
 
     pub walked_short : length held - size < 6 → false ≡ holds_of Applications p held
-    walked_short l = refuted (λ y. let r : length (ours_of (suc i) p) ≤ length held = (starts p held (suc i) (omega arith) y).room in omega (arith, longer, k.room))
+    walked_short l = refuted (λ y. let r : length (ours_of (suc i) p) ≤ length held = (starts p held (suc i) (omega (arith, h)) y).room in omega (arith, longer, k.room))
 
-    module _ {r : Bool} (l : 6 ≤ length held - size) (er : r ≡ same (take (6 * i + 6 - 6 * i) (drop (6 * i) p)) (take (size + 6 - size) (drop size held))) where
-      here : take (6 * i + 6 - 6 * i) (drop (6 * i) p) ≡ take 6 (drop (6 * i) p)
-      here = let six : 6 * i + 6 - 6 * i ≡ 6 = omega arith in rw six refl
+    module _ {r : Bool} (l : 6 ≤ length held - size) (er : r ≡ same (get_or es i []) (take (size + 6 - size) (drop size held))) where
+      here : get_or es i [] ≡ take 6 (drop (6 * i) p)
+      here = met_at p all m
 
       there : take (size + 6 - size) (drop size held) ≡ take 6 (drop size held)
       there = let six : size + 6 - size ≡ 6 = omega arith in rw six refl
@@ -86,35 +92,35 @@ module _ {p held : List ℕ} {size i : ℕ} where
       tested : r ≡ same (take 6 (drop (6 * i) p)) (take 6 (drop size held))
       tested = er ∙ (λ j. same (here j) (there j))
 
-      pub walked_other : not r ≡ true → false ≡ holds_of Applications p held
+      pub walked_other : r ≡ false → false ≡ holds_of Applications p held
       walked_other nr = refuted wrong
         where
           wrong : (same (ours Applications p) held ≡ true) → ⊥
           wrong y =
-              let s : ours_of (suc i) p ≡ take (size + 6) held = (starts p held (suc i) (omega arith) y).octets ∙ ap (λ (m : ℕ). take m held) longer in
+              let s : ours_of (suc i) p ≡ take (size + 6) held = (starts p held (suc i) (omega (arith, h)) y).octets ∙ ap (λ (m : ℕ). take m held) longer in
               let t : ours_of i p ++ take 6 (drop (6 * i) p) ≡ ours_of i p ++ take 6 (drop size held) =
               sym (ours_own p i own_here) ∙ s ∙ take-add size 6 held ∙ ap (λ (x : List ℕ). x ++ take 6 (drop size held)) (sym k.octets) in
               let u : take 6 (drop (6 * i) p) ≡ take 6 (drop size held) =
               sym (drop_at (ours_of i p) (take 6 (drop (6 * i) p)) size k.long) ∙ ap (drop size) t ∙ drop_at (ours_of i p) (take 6 (drop size held)) size k.long in
-              false≢true (sym (not-true r nr) ∙ tested ∙ ap (λ (x : List ℕ). same x (take 6 (drop size held))) u ∙ same_refl (take 6 (drop size held)))
+              false≢true (sym nr ∙ tested ∙ ap (λ (x : List ℕ). same x (take 6 (drop size held))) u ∙ same_refl (take 6 (drop size held)))
 
-      pub walked_more : not r ≡ false → Walked p held (size + 6) (i + 1)
+      pub walked_more : r ≡ true → Walked p held (size + 6) (i + 1)
       walked_more nr =
-          let u : take 6 (drop (6 * i) p) ≡ take 6 (drop size held) = same_is (take 6 (drop (6 * i) p)) (take 6 (drop size held)) (sym tested ∙ not-false r nr) in
+          let u : take 6 (drop (6 * i) p) ≡ take 6 (drop size held) = same_is (take 6 (drop (6 * i) p)) (take 6 (drop size held)) (sym tested ∙ nr) in
           record {
             whole = k.whole;
-            within = omega arith;
+            within = omega (arith, h);
             long = rw add-one longer;
             room = omega (arith, k.room);
             octets = rw add-one (ours_own p i own_here ∙ (λ j. k.octets j ++ u j) ∙ sym (take-add size 6 held));
           }
 
-  pub walked_end : Walked p held size i → entry_count p ≤ i → (size is length held) ≡ holds_of Applications p held
+  pub walked_end : Walked p held size i → es ≡ entries p → length es ≤ i → (size is length held) ≡ holds_of Applications p held
   unfolding ours
-  walked_end k h = by (size is length held) refl ∙ by_same p held k.whole
+  walked_end k every m = by (size is length held) refl ∙ by_same p held k.whole
     where
       all : i ≡ entry_count p
-      all = omega (arith, k.within)
+      all = omega (arith, k.within, met_all p every m)
 
       own : ours_of (entry_count p) p ≡ take size held
       own = rw (← all) k.octets
@@ -128,17 +134,3 @@ module _ {p held : List ℕ} {size i : ℕ} where
           let w : ours_of (entry_count p) p ≡ held = own ∙ take_all size held (omega arith) in
           sym (ap (λ (x : List ℕ). same x held) w ∙ same_refl held)
       by false t = unlike (ours_of (entry_count p) p) held (λ q. eqb-false size (length held) t (sym long ∙ q))
-
--- ---- of each feature
-
-module _ (f : Feature) (p held : List ℕ) {r : Bool} where
-  pub holds_groups : f ≡ Groups → r ≡ same p held → r ≡ holds_of f p held
-  unfolding holds_of ours
-  holds_groups h e = e ∙ rw h refl
-
-  pub holds_flow : f ≡ Flow → r ≡ same p held → r ≡ holds_of f p held
-  unfolding holds_of ours
-  holds_flow h e = e ∙ rw h refl
-
-  pub holds_applications : f ≡ Applications → r ≡ holds_of Applications p held → r ≡ holds_of f p held
-  holds_applications h e = e ∙ rw h refl

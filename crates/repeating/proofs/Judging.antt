@@ -2,10 +2,10 @@
 -- Oper and the peer. Every event keeps it. Assumes nothing.
 use Prim.Native.Nat.{ℕ}
 use mathlib.Core.Path.{◌≡◌, refl, sym, ap, ◌∙◌}
-use mathlib.Core.Bool.{Bool, true, false, not, ◌||◌, beq, false≢true}
+use mathlib.Core.Bool.{Bool, true, false, not, ◌||◌, beq}
 use mathlib.Core.List.{List}
 use lib.ListN.{length}
-use Rattle.std.specs.Prelude.{if◌then◌else◌, None, Ok, Err}
+use Rattle.std.specs.Prelude.{if◌then◌else◌, None, Ok, Err, Option, Some}
 use Rattle.octets.specs.Words.{◌below◌, ◌is◌}
 use Rattle.tlv.specs.declared.Refusal.{Refusal}
 use Rattle.tlv.specs.declared.Refusal.TheVariants.{NotRunning, SeveralNeighbours, InvalidSetting, UnknownFeature}
@@ -24,7 +24,7 @@ use Rattle.feature.specs.declared.Outcome.{Outcome}
 use Rattle.feature.specs.declared.State.{State}
 use Rattle.feature.specs.Outcome.{Received, oper_of, max_of, parameters_of, lower, held_peer, without_peer, judged, outcome}
 use Rattle.feature.specs.RulesLaws.{judged_oper, judged_peer}
-use Rattle.machine.specs.State.{next, fresh_at, stopped, changed, marked, setting_of, same_setting, judged_again, reset}
+use Rattle.machine.specs.State.{next, fresh_at, stopped, changed, marked, setting_of, same_setting, judged_again, reset, again_with}
 use Rattle.turn.specs.Turn.{control_twice, acknowledged, received}
 use Rattle.port.specs.declared.Flag.{Flag}
 use Rattle.port.specs.declared.Flag.TheVariants.{Admin, Receive, Transmit, Several}
@@ -45,14 +45,21 @@ use Rattle.invariants.proofs.Tests.{beq_not}
 -- ---- outcomes
 
 JudgedOutcome : Feature → Setting → Outcome → Type 0
-JudgedOutcome f s o = o.peer.held ≡ true → o ≡ judged f s o.oper o.peer
+JudgedOutcome f s o = (p : Peer) → o.peer ≡ Some p → o ≡ judged f s o.oper p
+
+-- no peer is held
+none_some : {p : Peer} → None ≡ Some p → ⊥
+none_some e = cc
 
 pub record JudgedState (f : Feature) (x : State) : Type 0 where
-  pub outcome : x.outcome.peer.held ≡ true → x.outcome ≡ judged f x.setting x.outcome.oper x.outcome.peer
+  pub outcome : (p : Peer) → x.outcome.peer ≡ Some p → x.outcome ≡ judged f x.setting x.outcome.oper p
 
 module _ (f : Feature) (s : Setting) where
-  judged_again_lem : (oper : ℕ) (p : Peer) → judged f s oper p ≡ judged f s (judged f s oper p).oper (judged f s oper p).peer
-  judged_again_lem oper p = λ i. judged f s (sym (judged_oper f s oper p) i) (sym (judged_peer f s oper p) i)
+  judged_again_lem : (oper : ℕ) (q p : Peer) → (judged f s oper q).peer ≡ Some p → judged f s oper q ≡ judged f s (judged f s oper q).oper p
+  judged_again_lem oper q p e =
+      let same : Some q ≡ Some p = sym (judged_peer f s oper q) ∙ e in
+      let d : q ≡ p = cc in
+      λ i. judged f s (sym (judged_oper f s oper q) i) (d i)
 
   ruled_judged : (max oper low : ℕ) (v : List ℕ) (a b c d e : Bool) →
       JudgedOutcome f s
@@ -63,12 +70,12 @@ module _ (f : Feature) (s : Setting) where
       else if not e then without_peer Bad low true
       else judged f s low (held_peer f v))
   unfolding JudgedOutcome
-  ruled_judged max oper low v true b c d e h = absurd (false≢true h)
-  ruled_judged max oper low v false true c d e h = absurd (false≢true h)
-  ruled_judged max oper low v false false true d e h = absurd (false≢true h)
-  ruled_judged max oper low v false false false false e h = absurd (false≢true h)
-  ruled_judged max oper low v false false false true false h = absurd (false≢true h)
-  ruled_judged max oper low v false false false true true h = judged_again_lem low (held_peer f v)
+  ruled_judged max oper low v true b c d e p h = absurd (none_some h)
+  ruled_judged max oper low v false true c d e p h = absurd (none_some h)
+  ruled_judged max oper low v false false true d e p h = absurd (none_some h)
+  ruled_judged max oper low v false false false false e p h = absurd (none_some h)
+  ruled_judged max oper low v false false false true false p h = absurd (none_some h)
+  ruled_judged max oper low v false false false true true p h = judged_again_lem low (held_peer f v) p h
 
   outcome_judged : (max oper : ℕ) (r : Received) → JudgedOutcome f s (outcome f max s oper r)
   unfolding outcome
@@ -83,8 +90,8 @@ module _ (f : Feature) where
   either_judged true x y h k = h
   either_judged false x y h k = k
 
-  none_judged : (x : State) → x.outcome.peer.held ≡ false → JudgedState f x
-  none_judged x n = record { outcome = λ h. absurd (false≢true (sym n ∙ h)) }
+  none_judged : (x : State) → x.outcome.peer ≡ None → JudgedState f x
+  none_judged x n = record { outcome = λ p h. absurd (none_some (sym n ∙ h)) }
 
   received_judged : (r : Received) (rcvd seq : ℕ) (x : State) → JudgedState f x → JudgedState f (received f r (acknowledged rcvd seq x))
   unfolding received acknowledged JudgedOutcome
@@ -93,7 +100,7 @@ module _ (f : Feature) where
 
   twice_judged : (x : State) → JudgedState f x → JudgedState f (control_twice x)
   unfolding control_twice
-  twice_judged x h = either_judged x.setting.advertise _ x (record { outcome = λ e. absurd (false≢true e) }) h
+  twice_judged x h = either_judged x.setting.advertise _ x (record { outcome = λ p e. absurd (none_some e) }) h
 
   marked_judged : (seq : ℕ) (x y : State) → JudgedState f y → JudgedState f (marked f seq x y)
   unfolding marked
@@ -101,38 +108,42 @@ module _ (f : Feature) where
 
   fresh_judged : (seq max : ℕ) (s : Setting) → JudgedState f (fresh_at seq max s)
   unfolding fresh_at
-  fresh_judged seq max s = either_judged s.advertise _ _ (record { outcome = λ e. absurd (false≢true e) }) (record { outcome = λ e. absurd (false≢true e) })
+  fresh_judged seq max s = either_judged s.advertise _ _ (record { outcome = λ p e. absurd (none_some e) }) (record { outcome = λ p e. absurd (none_some e) })
 
-  either_held : (b : Bool) (x y : State) → x.outcome.peer.held ≡ false → y.outcome.peer.held ≡ false → (if b then x else y).outcome.peer.held ≡ false
+  either_held : (b : Bool) (x y : State) → x.outcome.peer ≡ None → y.outcome.peer ≡ None → (if b then x else y).outcome.peer ≡ None
   either_held true x y h k = h
   either_held false x y h k = k
 
-  fresh_held : (seq max : ℕ) (s : Setting) → (fresh_at seq max s).outcome.peer.held ≡ false
+  fresh_held : (seq max : ℕ) (s : Setting) → (fresh_at seq max s).outcome.peer ≡ None
   unfolding fresh_at
   fresh_held seq max s = either_held s.advertise _ _ refl refl
 
   reset_judged : (seq : ℕ) (s : Setting) (x : State) → SoundState f x → JudgedState f (reset f seq s x)
   unfolding reset judged_again
-  reset_judged seq s x h = by (beq x.setting.advertise s.advertise) s.advertise x.outcome.peer.held refl refl refl
+  reset_judged seq s x h = by (beq x.setting.advertise s.advertise) s.advertise refl refl
     where
       left : Bool → Outcome
       left mode = record { reason = x.outcome.reason; oper = x.outcome.oper; error = x.outcome.error; mode = mode; peer = x.outcome.peer; adopts = false }
 
-      by : (c a b : Bool) → beq x.setting.advertise s.advertise ≡ c → s.advertise ≡ a → x.outcome.peer.held ≡ b
+      on : (o : Option Peer) → x.outcome.peer ≡ o
+          → JudgedState f (record { max = x.max; setting = s; outcome = again_with f s x.outcome o; syncd = x.syncd; sequence = x.sequence })
+      on (Some q) e = record { outcome = judged_again_lem f s x.outcome.oper q }
+      on None e = none_judged _ e
+
+      by : (c a : Bool) → beq x.setting.advertise s.advertise ≡ c → s.advertise ≡ a
           → JudgedState f
           (if c then
           record {
             max = x.max;
             setting = s;
-            outcome = if not a then left s.enable else if b then judged f s x.outcome.oper x.outcome.peer else left x.outcome.mode;
+            outcome = if not a then left s.enable else again_with f s x.outcome x.outcome.peer;
             syncd = x.syncd;
             sequence = x.sequence;
           }
           else fresh_at (next seq) x.max s)
-      by false a b e d g = fresh_judged (next seq) x.max s
-      by true false b e d g = none_judged _ (h.withheld (beq_not x.setting.advertise s.advertise (ap not e) ∙ d))
-      by true true true e d g = record { outcome = λ _. judged_again_lem f s x.outcome.oper x.outcome.peer }
-      by true true false e d g = none_judged _ g
+      by false a e d = fresh_judged (next seq) x.max s
+      by true false e d = none_judged _ (h.withheld (beq_not x.setting.advertise s.advertise (ap not e) ∙ d))
+      by true true e d = on x.outcome.peer refl
 
 -- ---- the port
 

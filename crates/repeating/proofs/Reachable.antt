@@ -2,11 +2,11 @@
 use Prim.Native.Nat.{ℕ}
 use native.Mathlib.Omega.{arith}
 use mathlib.Core.Path.{◌≡◌, refl, ◌∙◌}
-use mathlib.Core.Bool.{Bool, true, false, not, ◌&&◌, false≢true}
+use mathlib.Core.Bool.{Bool, true, false, not, ◌&&◌}
 use mathlib.Core.List.{List, [], ◌∷◌}
 use lib.ListN.{length}
 use borrow.Author.Tests.{eqb-true, eqb-false}
-use Rattle.std.specs.Prelude.{if◌then◌else◌}
+use Rattle.std.specs.Prelude.{if◌then◌else◌, Option, None, Some}
 use Rattle.octets.specs.Words.{◌is◌}
 use Rattle.notices.specs.Notices.{is_port}
 use Rattle.notices.specs.Notices as numbers
@@ -31,9 +31,9 @@ use Rattle.calls.specs.Sound.{AllInRange, Reachable}
 use Rattle.calls.proofs.Independent.{four_after, blank_four, blank_port_lem, own_after, other_after}
 use Rattle.calls.proofs.Reachable.{event_stands, nowhere, reachable_sound}
 use Rattle.repeating.specs.declared.Repetition.{Repetition}
-use Rattle.repeating.specs.Repeating.{otherwise, none_waits, repeat_given, repeat_of, repetition, ControlAlone}
+use Rattle.repeating.specs.Repeating.{none_waits, repeat_given, repeat_of, repetition, ControlAlone}
 use Rattle.repeating.proofs.Judging.{Judged, handled_judged, flagged_judged, gone_judged, setting_judged, created_judged, blank_judged}
-use Rattle.repeating.proofs.Repeated.{repeated}
+use Rattle.repeating.proofs.Repeated.{none_some, repeated}
 
 -- ---- one call at one port
 
@@ -107,26 +107,26 @@ reachable_judged r h n = rw h.is (steady h.calls h.octets n).judged
 
 -- ---- a frame that repeats what is held
 
-port_repeats : (n : ℕ) (p : Port) → SoundPort p → Judged p → (o : List ℕ) → (repeat_of n p o).holds ≡ true → changed n p Frame o ≡ repetition p (repeat_of n p o)
+port_repeats : (n : ℕ) (p : Port) → SoundPort p → Judged p → (o : List ℕ) (r : Repetition) → repeat_of n p o ≡ Some r → changed n p Frame o ≡ repetition p r
 unfolding changed happens repeat_of none_waits
-port_repeats n p s j o = by (is_port n) (running p) p.several p.groups.syncd p.flow.syncd p.applications.syncd refl refl refl refl refl
+port_repeats n p s j o r = by (is_port n) (running p) p.several p.groups.syncd p.flow.syncd p.applications.syncd refl refl refl refl refl
   where
-    told : Repetition
+    told : Option Repetition
     told = repeat_given o (read_for p.revision o) p
 
     by : (a b m c d e : Bool) → running p ≡ b → p.several ≡ m → p.groups.syncd ≡ c → p.flow.syncd ≡ d → p.applications.syncd ≡ e
-        → (if not ((a && b && not m) && c && d && e) then otherwise p.control else told).holds ≡ true
-        → (if a then handling.handled p o else refused NoPort p) ≡ repetition p (if not ((a && b && not m) && c && d && e) then otherwise p.control else told)
-    by false b m c d e rs sn sg sw sa t = absurd (false≢true t)
-    by true false m c d e rs sn sg sw sa t = absurd (false≢true t)
-    by true true true c d e rs sn sg sw sa t = absurd (false≢true t)
-    by true true false false d e rs sn sg sw sa t = absurd (false≢true t)
-    by true true false true false e rs sn sg sw sa t = absurd (false≢true t)
-    by true true false true true false rs sn sg sw sa t = absurd (false≢true t)
-    by true true false true true true rs sn sg sw sa t = repeated p s j o rs sn sg sw sa t
+        → (if not ((a && b && not m) && c && d && e) then None else told) ≡ Some r
+        → (if a then handling.handled p o else refused NoPort p) ≡ repetition p r
+    by false b m c d e rs sn sg sw sa t = absurd (none_some t)
+    by true false m c d e rs sn sg sw sa t = absurd (none_some t)
+    by true true true c d e rs sn sg sw sa t = absurd (none_some t)
+    by true true false false d e rs sn sg sw sa t = absurd (none_some t)
+    by true true false true false e rs sn sg sw sa t = absurd (none_some t)
+    by true true false true true false rs sn sg sw sa t = absurd (none_some t)
+    by true true false true true true rs sn sg sw sa t = repeated p s j o rs sn sg sw sa r t
 
 pub reachable_repeats : ControlAlone
-reachable_repeats r h n o = port_repeats n (port_at r n) sound (reachable_judged r h n) o
+reachable_repeats r h n o x = port_repeats n (port_at r n) sound (reachable_judged r h n) o x
   where
     sound : SoundPort (port_at r n)
     sound = (reachable_sound r h).ports n

@@ -7,7 +7,7 @@ use mathlib.Core.Bool.{Bool, true, false, not, ◌&&◌, ◌||◌, beq, false≢
 use mathlib.Core.List.{List}
 use lib.ListN.{length}
 use borrow.Author.Tests.{eqb-true, eq-eqb, le-ltb}
-use Rattle.std.specs.Prelude.{if◌then◌else◌, None, Ok, Err}
+use Rattle.std.specs.Prelude.{if◌then◌else◌, None, Ok, Err, Option, Some}
 use Rattle.octets.specs.Words.{◌below◌, ◌is◌}
 use Rattle.octets.specs.Octets.{at, same}
 use Rattle.octets.specs.Laws.{same_is, and_left, and_right}
@@ -44,8 +44,11 @@ use Rattle.admission.specs.AdmissionLaws.{control_by, heard_of}
 use Rattle.handling.specs.HandlingLaws.{state_by, up_by, port_by}
 use Rattle.handling.proofs.HandlingLaws.{completed_by}
 use Rattle.repeating.specs.declared.Repetition.{Repetition}
-use Rattle.repeating.specs.Repeating.{otherwise, flags_are, whole_entries, holds_of, repeats_held, repeats_in, is_exchange, repeats_all, repeat_in, repeat_given, repetition}
+use Rattle.repeating.specs.Repeating.{flags_are, repeats_peer, repeats_by, whole_entries, holds_of, repeats_held, repeats_in, is_exchange, repeats_all, repeat_in, repeat_given, repetition}
 use Rattle.repeating.proofs.Judging.{JudgedState, Judged}
+
+pub none_some : {r : Repetition} → None ≡ Some r → ⊥
+none_some e = cc
 
 -- ---- one feature
 
@@ -57,29 +60,36 @@ beq_is false false e = refl
 
 -- what the tests say
 record Repeats (f : Feature) (x : State) (v : List ℕ) : Type 0 where
-  held : x.outcome.peer.held ≡ true
+  peer : Peer
+  held : x.outcome.peer ≡ Some peer
   long : length v below 4 ≡ false
   oper : oper_of v is x.outcome.oper ≡ true
   low : lower x.max (max_of v) is x.outcome.oper ≡ true
-  flags : flags_are (at v 2) x.outcome.peer.enable x.outcome.peer.willing x.outcome.peer.error ≡ true
-  parameters : holds_of f (parameters_of v) (content x.outcome.peer.parameters) ≡ true
+  flags : flags_are (at v 2) peer.enable peer.willing peer.error ≡ true
+  parameters : holds_of f (parameters_of v) (content peer.parameters) ≡ true
+
+repeats_told_peer : (f : Feature) (x : State) (v : List ℕ) (q : Peer) → x.outcome.peer ≡ Some q → repeats_peer f x.max x.outcome.oper q v ≡ true → Repeats f x v
+unfolding repeats_peer
+repeats_told_peer f x v q held =
+    by (length v below 4) (oper_of v is x.outcome.oper) (lower x.max (max_of v) is x.outcome.oper) (flags_are (at v 2) q.enable q.willing q.error) refl refl refl refl
+  where
+    by : (b c d e : Bool) → (length v below 4) ≡ b → (oper_of v is x.outcome.oper) ≡ c → (lower x.max (max_of v) is x.outcome.oper) ≡ d
+        → flags_are (at v 2) q.enable q.willing q.error ≡ e
+        → (if b then false else if not c then false else if not d then false else if not e then false
+        else holds_of f (parameters_of v) (content q.parameters)) ≡ true → Repeats f x v
+    by true c d e eb ec ed ee t = absurd (false≢true t)
+    by false false d e eb ec ed ee t = absurd (false≢true t)
+    by false true false e eb ec ed ee t = absurd (false≢true t)
+    by false true true false eb ec ed ee t = absurd (false≢true t)
+    by false true true true eb ec ed ee t = record { peer = q; held = held; long = eb; oper = ec; low = ed; flags = ee; parameters = t }
 
 repeats_told : (f : Feature) (x : State) (v : List ℕ) → repeats_held f x v ≡ true → Repeats f x v
 unfolding repeats_held
-repeats_told f x v =
-    by x.outcome.peer.held (length v below 4) (oper_of v is x.outcome.oper) (lower x.max (max_of v) is x.outcome.oper)
-    (flags_are (at v 2) x.outcome.peer.enable x.outcome.peer.willing x.outcome.peer.error) refl refl refl refl refl
+repeats_told f x v = by x.outcome.peer refl
   where
-    by : (a b c d e : Bool) → x.outcome.peer.held ≡ a → (length v below 4) ≡ b → (oper_of v is x.outcome.oper) ≡ c → (lower x.max (max_of v) is x.outcome.oper) ≡ d
-        → flags_are (at v 2) x.outcome.peer.enable x.outcome.peer.willing x.outcome.peer.error ≡ e
-        → (if not a then false else if b then false else if not c then false else if not d then false else if not e then false
-        else holds_of f (parameters_of v) (content x.outcome.peer.parameters)) ≡ true → Repeats f x v
-    by false b c d e ea eb ec ed ee t = absurd (false≢true t)
-    by true true c d e ea eb ec ed ee t = absurd (false≢true t)
-    by true false false d e ea eb ec ed ee t = absurd (false≢true t)
-    by true false true false e ea eb ec ed ee t = absurd (false≢true t)
-    by true false true true false ea eb ec ed ee t = absurd (false≢true t)
-    by true false true true true ea eb ec ed ee t = record { held = ea; long = eb; oper = ec; low = ed; flags = ee; parameters = t }
+    by : (o : Option Peer) → x.outcome.peer ≡ o → repeats_by f x.max x.outcome.oper o v ≡ true → Repeats f x v
+    by None e t = absurd (false≢true t)
+    by (Some q) e t = repeats_told_peer f x v q e t
 
 groups_whole : (p : List ℕ) → p ≡ ours Groups p
 unfolding ours
@@ -104,7 +114,7 @@ valid_by Applications p held w e own h = entries_valid p held w e own h
 module _ (f : Feature) (x : State) (h : SoundState f x) (j : JudgedState f x) where
   module _ (v : List ℕ) (t : Repeats f x v) where
     abbrev p : Peer
-    p = x.outcome.peer
+    p = t.peer
 
     whole : whole_entries f (parameters_of v) ≡ true
     unfolding holds_of
@@ -117,7 +127,7 @@ module _ (f : Feature) (x : State) (h : SoundState f x) (j : JudgedState f x) wh
         (and_right (whole_entries f (parameters_of v)) (same (ours f (parameters_of v)) (content p.parameters)) t.parameters)
 
     stores : stored (ours f (parameters_of v)) ≡ p.parameters
-    stores = ap stored octets ∙ sym (h.peer.some t.held).whole
+    stores = ap stored octets ∙ sym (h.peer.some p t.held).whole
 
     first_two : beq (enable_of v) p.enable && beq (willing_of v) p.willing ≡ true
     first_two = and_left (beq (enable_of v) p.enable && beq (willing_of v) p.willing) (beq (error_of v) p.error) t.flags
@@ -127,7 +137,7 @@ module _ (f : Feature) (x : State) (h : SoundState f x) (j : JudgedState f x) wh
         let a : enable_of v ≡ p.enable = beq_is (enable_of v) p.enable (and_left (beq (enable_of v) p.enable) (beq (willing_of v) p.willing) first_two) in
         let b : willing_of v ≡ p.willing = beq_is (willing_of v) p.willing (and_right (beq (enable_of v) p.enable) (beq (willing_of v) p.willing) first_two) in
         let c : error_of v ≡ p.error = beq_is (error_of v) p.error (and_right (beq (enable_of v) p.enable && beq (willing_of v) p.willing) (beq (error_of v) p.error) t.flags) in
-        λ i. record { held = sym t.held i; enable = a i; willing = b i; error = c i; parameters = stores i }
+        λ i. record { enable = a i; willing = b i; error = c i; parameters = stores i }
 
     low_is : lower x.max (max_of v) ≡ x.outcome.oper
     low_is = eqb-true (lower x.max (max_of v)) x.outcome.oper t.low
@@ -139,13 +149,13 @@ module _ (f : Feature) (x : State) (h : SoundState f x) (j : JudgedState f x) wh
     ordered = le-ltb (max_of v) (oper_of v) (rw oper_is (min-le_right x.max (max_of v)))
 
     good : valid f (parameters_of v) ≡ true
-    good = valid_by f (parameters_of v) (content p.parameters) whole octets (h.peer.some t.held).own (h.peer.some t.held).valid
+    good = valid_by f (parameters_of v) (content p.parameters) whole octets (h.peer.some p t.held).own (h.peer.some p t.held).valid
 
     outcome_is : outcome f x.max x.setting x.outcome.oper (record { count = 1; value = v }) ≡ x.outcome
     unfolding outcome
     outcome_is =
         simp (t.long, ordered, eq-eqb (oper_of v) (lower x.max (max_of v)) oper_is, good)
-        ((λ i. judged f x.setting (low_is i) (peer_is i)) ∙ sym (j.outcome t.held))
+        ((λ i. judged f x.setting (low_is i) (peer_is i)) ∙ sym (j.outcome p t.held))
 
   acknowledges : x.syncd ≡ true → (rcvd seq : ℕ) → acknowledged rcvd seq x ≡ x
   unfolding acknowledged
@@ -226,7 +236,7 @@ module _ (p : Port) (h : SoundPort p) (j : Judged p) where
         max Flow = refl
         max Applications = refl
 
-    accepts : accepted o c p ≡ repetition p (record { holds = true; wish = not (same (control_value p.control) (control_value k.control)); control = k.control })
+    accepts : accepted o c p ≡ repetition p (record { wish = not (same (control_value p.control) (control_value k.control)); control = k.control })
     unfolding accepted frame_event
     accepts =
         ap (frame_event p) left
@@ -252,9 +262,9 @@ module _ (p : Port) (h : SoundPort p) (j : Judged p) where
   unmarked_by o c e = ap (λ (w : Course). (control_by w (message o c) p.control).duplicate) e
 
   accepted_repeats : (o : List ℕ) (c : Contents) → running p ≡ true → p.groups.syncd ≡ true → p.flow.syncd ≡ true → p.applications.syncd ≡ true
-      → (repeat_in o c p).holds ≡ true → accepted o c p ≡ repetition p (repeat_in o c p)
+      → (r : Repetition) → repeat_in o c p ≡ Some r → accepted o c p ≡ repetition p r
   unfolding repeat_in repeats_all
-  accepted_repeats o c runs sg sw sa = by (is_exchange k.course) (repeats_all o c p) refl refl
+  accepted_repeats o c runs sg sw sa r = by (is_exchange k.course) (repeats_all o c p) refl refl
     where
       k : Heard
       k = heard_of o c p.control
@@ -269,22 +279,23 @@ module _ (p : Port) (h : SoundPort p) (j : Judged p) where
       a = repeats_in Applications p.applications c.applications.count (value_of o c.applications)
 
       told : Repetition
-      told = record { holds = true; wish = not (same (control_value p.control) (control_value k.control)); control = k.control }
+      told = record { wish = not (same (control_value p.control) (control_value k.control)); control = k.control }
 
       by : (x y : Bool) → is_exchange k.course ≡ x → (w && g && a) ≡ y
-          → (if not x then otherwise p.control else if not y then otherwise p.control else told).holds ≡ true
-          → accepted o c p ≡ repetition p (if not x then otherwise p.control else if not y then otherwise p.control else told)
-      by false y ex ey t = absurd (false≢true t)
-      by true false ex ey t = absurd (false≢true t)
+          → (if not x then None else if not y then None else Some told) ≡ Some r
+          → accepted o c p ≡ repetition p r
+      by false y ex ey t = absurd (none_some t)
+      by true false ex ey t = absurd (none_some t)
       by true true ex ey t =
           let q : k.course ≡ Exchange = exchange_is k.course ex in
           let two : (w && g) ≡ true = and_left (w && g) a ey in
           accepts o c runs k refl q (unmarked_by o c q) sg sw sa (and_right w g two) (and_left w g two) (and_right (w && g) a ey)
+          ∙ ap (repetition p) (let d : told ≡ r = cc in d)
 
   pub repeated : (o : List ℕ) → running p ≡ true → p.several ≡ false → p.groups.syncd ≡ true → p.flow.syncd ≡ true → p.applications.syncd ≡ true
-      → (repeat_given o (read_for p.revision o) p).holds ≡ true → handled p o ≡ repetition p (repeat_given o (read_for p.revision o) p)
+      → (r : Repetition) → repeat_given o (read_for p.revision o) p ≡ Some r → handled p o ≡ repetition p r
   unfolding handled repeat_given given
-  repeated o runs one sg sw sa t = taken (running p) p.several runs one ∙ by (read_for p.revision o) t
+  repeated o runs one sg sw sa r t = taken (running p) p.several runs one ∙ by (read_for p.revision o) t
     where
       taken : (a b : Bool) → a ≡ true → b ≡ false
           → (if not a then rejected NotRunning 0 p else if b then rejected SeveralNeighbours 0 p else given o (read_for p.revision o) p) ≡ given o (read_for p.revision o) p
@@ -292,6 +303,6 @@ module _ (p : Port) (h : SoundPort p) (j : Judged p) where
       taken true true e f = absurd (false≢true (sym f))
       taken true false e f = refl
 
-      by : (x : Reading) → (repeat_given o x p).holds ≡ true → given o x p ≡ repetition p (repeat_given o x p)
-      by (Err r) t = absurd (false≢true t)
-      by (Ok c) t = accepted_repeats o c runs sg sw sa t
+      by : (x : Reading) → repeat_given o x p ≡ Some r → given o x p ≡ repetition p r
+      by (Err e) t = absurd (none_some t)
+      by (Ok c) t = accepted_repeats o c runs sg sw sa r t

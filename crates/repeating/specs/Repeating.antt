@@ -1,6 +1,6 @@
 -- A frame that repeats what is held of the peer, at a port whose features are all Syncd: a settled peer sends one every 30 seconds. At a port
 -- of a reachable recorder it changes the control alone (`ControlAlone`, proofs/Reachable).
-use Rattle.std.specs.Prelude.{ℕ, ◌%◌, Bool, true, false, not, ◌&&◌, ◌≡◌, List, length, if◌then◌else◌, Ok, Err}
+use Rattle.std.specs.Prelude.{ℕ, ◌%◌, Bool, true, false, not, ◌&&◌, ◌≡◌, List, length, if◌then◌else◌, Ok, Err, Option, None, Some}
 use Rattle.std.specs.Bool.{beq}
 use Rattle.octets.specs.Words.{◌below◌, ◌atmost◌, ◌is◌}
 use Rattle.octets.specs.Octets.{at, same}
@@ -10,12 +10,12 @@ use Rattle.reading.specs.Revisions.{read_for}
 use Rattle.parameters.specs.declared.Feature.{Feature}
 use Rattle.parameters.specs.declared.Feature.TheVariants.{Groups, Flow, Applications}
 use Rattle.parameters.specs.Parameters.{content, ours}
+use Rattle.feature.specs.declared.Peer.{Peer}
 use Rattle.feature.specs.declared.State.{State}
 use Rattle.turn.specs.declared.Course.{Course}
 use Rattle.turn.specs.declared.Course.TheVariants.{Twice, OtherVersion, Exchange}
 use Rattle.feature.specs.Outcome.{oper_of, max_of, parameters_of, lower}
 use Rattle.notices.specs.Notices.{is_port}
-use Rattle.port.specs.declared.Control.{Control}
 use Rattle.port.specs.declared.Port.{Port}
 use Rattle.port.specs.declared.Event.{Event}
 use Rattle.port.specs.Parts.{with_control, running}
@@ -27,9 +27,6 @@ use Rattle.recorder.specs.declared.Change.TheVariants.{Frame}
 use Rattle.recorder.specs.Recorder.{port_at, changed}
 use Rattle.calls.specs.Sound.{Reachable}
 use Rattle.repeating.specs.declared.Repetition.{Repetition}
-
-abbrev pub otherwise : Control → Repetition
-otherwise k = record { holds = false; wish = false; control = k }
 
 -- ---- one feature
 
@@ -47,14 +44,20 @@ unfoldable pub holds_of : Feature → List ℕ → List ℕ → Bool
 holds_of f p held = whole_entries f p && same (ours f p) held
 
 -- the value of a sub-TLV is what is held of the peer: at the version in force, with its flags and its parameters
+unfoldable pub repeats_peer : Feature → ℕ → ℕ → Peer → List ℕ → Bool
+repeats_peer f max oper q v =
+    if length v below 4 then false
+    else if not (oper_of v is oper) then false
+    else if not (lower max (max_of v) is oper) then false
+    else if not (flags_are (at v 2) q.enable q.willing q.error) then false
+    else holds_of f (parameters_of v) (content q.parameters)
+
+abbrev pub repeats_by : Feature → ℕ → ℕ → Option Peer → List ℕ → Bool
+repeats_by f max oper None v = false
+repeats_by f max oper (Some q) v = repeats_peer f max oper q v
+
 unfoldable pub repeats_held : Feature → State → List ℕ → Bool
-repeats_held f x v =
-    if not x.outcome.peer.held then false
-    else if length v below 4 then false
-    else if not (oper_of v is x.outcome.oper) then false
-    else if not (lower x.max (max_of v) is x.outcome.oper) then false
-    else if not (flags_are (at v 2) x.outcome.peer.enable x.outcome.peer.willing x.outcome.peer.error) then false
-    else holds_of f (parameters_of v) (content x.outcome.peer.parameters)
+repeats_held f x v = repeats_by f x.max x.outcome.oper x.outcome.peer v
 
 -- the sub-TLVs of a feature, so many, with the value of the last: one, with what is held; of a feature that is not advertised any
 unfoldable pub repeats_in : Feature → State → ℕ → List ℕ → Bool
@@ -77,26 +80,25 @@ repeats_all o c p =
     && repeats_in Applications p.applications c.applications.count (value_of o c.applications)
 
 -- the frame is handled to the end (01, Handling a frame, 2 and 3), and each feature's sub-TLV is what is held
-unfoldable pub repeat_in : List ℕ → Contents → Port → Repetition
+unfoldable pub repeat_in : List ℕ → Contents → Port → Option Repetition
 repeat_in o c p =
-    if not (is_exchange (heard_of o c p.control).course) then otherwise p.control
-    else if not (repeats_all o c p) then otherwise p.control
-    else record {
-      holds = true;
+    if not (is_exchange (heard_of o c p.control).course) then None
+    else if not (repeats_all o c p) then None
+    else Some (record {
       wish = not (same (control_value p.control) (control_value (heard_of o c p.control).control));
       control = (heard_of o c p.control).control;
-    }
+    })
 
-unfoldable pub repeat_given : List ℕ → Reading → Port → Repetition
-repeat_given o (Err r) p = otherwise p.control
+unfoldable pub repeat_given : List ℕ → Reading → Port → Option Repetition
+repeat_given o (Err r) p = None
 repeat_given o (Ok c) p = repeat_in o c p
 
 -- the port takes frames (01, Refusal numbers, 1 and 2; 02, E10: 16), and none of its features waits
 unfoldable pub none_waits : ℕ → Port → Bool
 none_waits n p = (is_port n && running p && not p.several) && p.groups.syncd && p.flow.syncd && p.applications.syncd
 
-unfoldable pub repeat_of : ℕ → Port → List ℕ → Repetition
-repeat_of n p o = if not (none_waits n p) then otherwise p.control else repeat_given o (read_for p.revision o) p
+unfoldable pub repeat_of : ℕ → Port → List ℕ → Option Repetition
+repeat_of n p o = if not (none_waits n p) then None else repeat_given o (read_for p.revision o) p
 
 -- ---- what is promised
 
@@ -106,5 +108,5 @@ repetition p r = record { answer = Ok r.wish; port = with_control p r.control; n
 
 -- at every port that calls lead to
 abbrev pub ControlAlone : Type 0
-ControlAlone = (r : Recorder) → Reachable r → (n : ℕ) (o : List ℕ) → (repeat_of n (port_at r n) o).holds ≡ true
-    → changed n (port_at r n) Frame o ≡ repetition (port_at r n) (repeat_of n (port_at r n) o)
+ControlAlone = (r : Recorder) → Reachable r → (n : ℕ) (o : List ℕ) (x : Repetition) → repeat_of n (port_at r n) o ≡ Some x
+    → changed n (port_at r n) Frame o ≡ repetition (port_at r n) x

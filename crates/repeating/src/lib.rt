@@ -5,31 +5,19 @@ ghost use Rattle.std.specs.Prelude.{◌≡◌, ◌+◌, ◌≤◌, length};
 ghost use Rattle.contents.specs.Contents.{value_of};
 ghost use Rattle.reading.specs.Promises.{Inside};
 ghost use Rattle.parameters.specs.declared.Feature.TheVariants.{Applications};
-ghost use Rattle.repeating.specs.Repeating.{otherwise, none_waits, flags_are, holds_of, repeats_held, repeats_in, is_exchange, repeats_all, repeat_in, repeat_of};
+ghost use Rattle.repeating.specs.Repeating.{none_waits, flags_are, holds_of, repeats_held, repeats_in, repeats_all, repeat_in, repeat_of};
 
-use contents::{Contents, Found, Reading};
+use contents::{Contents, Found};
 use feature::State;
 use parameters::Feature;
 use port::{Control, Port};
 use turn::Course;
 
-// What a frame does that repeats what is held of the peer: the control alone changes, and nothing is raised. Where `holds` is false
-// the rest says nothing.
+// What a frame does that repeats what is held of the peer: the control alone changes, and nothing is raised.
 #[derive(Clone, Copy)]
 pub struct Repetition {
-    pub holds: bool,
     pub wish: bool,
     pub control: Control,
-}
-
-fn no_repetition(k: Control) -> Repetition
-    ensures { result ≡ otherwise k }
-{
-    Repetition {
-        holds: false,
-        wish: false,
-        control: k,
-    }
 }
 
 // Whether the flags of a sub-TLV are these.
@@ -46,76 +34,65 @@ fn holds_own(p: &[u8], held: &[u8]) -> bool
     if p.len() % 6 != 0 {
         return false;
     }
-    let n = p.len() / 6;
     let mut size: usize = 0;
-    let mut i: usize = 0;
-    while i < n {
-        if !applications::is_ours(p, i) {
-            i += 1;
+    for e in applications::entries(p) {
+        if !applications::is_ours(e) {
             continue;
         }
         if held.len() - size < 6 {
             return false;
         }
-        let start = 6 * i;
-        let end = start + 6;
         let behind = size + 6;
-        if !octets::same_octets(&p[start..end], &held[size..behind]) {
+        if !octets::same_octets(e, &held[size..behind]) {
             return false;
         }
         size = behind;
-        i += 1;
     }
     size == held.len()
 }
 
 // Whether what a state holds of parameters that came is what is held.
+#[tactic(auto, unfolding(crate::specs::Repeating::holds_of, parameters::specs::Parameters::ours))]
 fn holds(f: Feature, p: &[u8], held: &[u8]) -> bool
     ensures { result ≡ holds_of f p.now held.now }
 {
     match f {
-        Feature::Groups => octets::same_octets(p, held),
-        Feature::Flow => octets::same_octets(p, held),
+        Feature::Groups | Feature::Flow => octets::same_octets(p, held),
         Feature::Applications => holds_own(p, held),
     }
 }
 
 // Whether the value of a sub-TLV is what is held of the peer, at the version in force.
+#[tactic(auto, unfolding(crate::specs::Repeating::repeats_held, crate::specs::Repeating::repeats_peer))]
 fn repeats_held(f: Feature, x: State, value: &[u8]) -> bool
     ensures { result ≡ repeats_held f x value.now }
 {
-    let o = x.outcome;
-    let q = o.peer;
-    if !q.held {
+    let oper = x.outcome.oper;
+    let Some(q) = x.outcome.peer else {
         return false;
-    }
+    };
     if value.len() < 4 {
         return false;
     }
-    if octets::octet(value, 0) != o.oper {
+    if octets::octet(value, 0) != oper {
         return false;
     }
-    if feature::lower(x.max, octets::octet(value, 1)) != o.oper {
+    if x.max.min(octets::octet(value, 1)) != oper {
         return false;
     }
     if !same_flags(octets::octet(value, 2), q.enable, q.willing, q.error) {
         return false;
     }
-    let theirs = q.parameters;
-    holds(
-        f,
-        octets::from(value, 4),
-        octets::first(&theirs.octets, octets::wide(theirs.length)),
-    )
+    holds(f, octets::from(value, 4), q.parameters.content())
 }
 
 // Whether a frame brings of a feature what is held; of one that is not advertised nothing is taken.
+#[tactic(auto, unfolding(crate::specs::Repeating::repeats_in))]
 fn repeats_feature(f: Feature, x: State, s: &[u8], found: Found) -> bool
     requires { found.start + found.length ≤ length s.now }
     ensures { result ≡ repeats_in f x found.count (value_of s.now found) }
 {
-    let own = x.setting;
-    if !own.advertise {
+    if !x.setting.advertise {
         return true;
     }
     if found.count != 1 {
@@ -125,6 +102,7 @@ fn repeats_feature(f: Feature, x: State, s: &[u8], found: Found) -> bool
 }
 
 // Whether it brings of each feature what is held: the shortest first, and left at the first that differs.
+#[tactic(auto, unfolding(crate::specs::Repeating::repeats_all))]
 fn repeats_all(p: Port, s: &[u8], c: Contents) -> bool
     requires { Inside s.now c }
     ensures { result ≡ repeats_all s.now c p }
@@ -138,40 +116,29 @@ fn repeats_all(p: Port, s: &[u8], c: Contents) -> bool
     repeats_feature(Feature::Applications, p.applications, s, c.applications)
 }
 
-fn is_exchange(course: Course) -> bool
-    ensures { result ≡ is_exchange course }
-{
-    match course {
-        Course::Twice => false,
-        Course::OtherVersion => false,
-        Course::Exchange => true,
-    }
-}
-
 // What a frame that is accepted repeats.
-fn repeat_in(p: Port, s: &[u8], c: Contents) -> Repetition
+#[tactic(auto, unfolding(crate::specs::Repeating::repeat_in, crate::specs::Repeating::is_exchange))]
+fn repeat_in(p: Port, s: &[u8], c: Contents) -> Option<Repetition>
     requires { Inside s.now c }
     ensures { result ≡ repeat_in s.now c p }
 {
     let old = p.control;
     let h = admission::hear(s, c, old);
-    let course = h.course;
-    if !is_exchange(course) {
-        return no_repetition(old);
+    if !matches!(h.course, Course::Exchange) {
+        return None;
     }
     if !repeats_all(p, s, c) {
-        return no_repetition(old);
+        return None;
     }
     let control = h.control;
-    let same = port::writing::same_control(old, control);
-    Repetition {
-        holds: true,
-        wish: !same,
-        control: control,
-    }
+    Some(Repetition {
+        wish: !port::writing::same_control(old, control),
+        control,
+    })
 }
 
 // Whether the port with a number takes frames, and each of its features is Syncd.
+#[tactic(auto, unfolding(crate::specs::Repeating::none_waits))]
 fn none_waits(n: u8, p: Port) -> bool
     ensures { result ≡ none_waits n p }
 {
@@ -183,20 +150,15 @@ fn none_waits(n: u8, p: Port) -> bool
 // `recorder::handle`: where it holds, and the port came about by calls, the next port is `p` with this control, nothing is raised
 // and `wish` is the answer (proofs/Reachable: `reachable_repeats`), so that no port need be made or stored. It does not call
 // `admission::admit`, which with two callers would be called out of line, with a copy of the port.
-pub fn repeat(n: u8, p: Port, s: &[u8]) -> Repetition
+#[tactic(auto, unfolding(crate::specs::Repeating::repeat_of, crate::specs::Repeating::repeat_given))]
+pub fn repeat(n: u8, p: Port, s: &[u8]) -> Option<Repetition>
     ensures { result ≡ repeat_of n p s.now }
 {
     if !none_waits(n, p) {
-        return no_repetition(p.control);
+        return None;
     }
-    let revision = p.revision;
-    let read = reading::read_for(revision, s);
-    match read {
-        Reading::Refused(_, _) => {
-            return no_repetition(p.control);
-        }
-        Reading::Accepted(contents) => {
-            return repeat_in(p, s, contents);
-        }
+    match reading::read_for(p.revision, s) {
+        Ok(contents) => repeat_in(p, s, contents),
+        Err(_) => None,
     }
 }
