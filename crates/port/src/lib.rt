@@ -31,7 +31,7 @@ pub struct Control {
     pub broken: bool,
 }
 
-// The revision is fixed at creation (02, E11).
+// The revision is fixed at creation (02, E11). Each feature is a field, called by name: a loop over them needs a match for each.
 #[derive(Clone, Copy)]
 pub struct Port {
     pub revision: Revision,
