@@ -10,6 +10,7 @@ use lib.Seq.{take-append_seam}
 use Rattle.std.specs.Prelude.{if◌then◌else◌, Ok, Err}
 use Rattle.octets.specs.Words.{◌below◌, ◌is◌}
 use Rattle.tlv.specs.declared.Refusal.{Refusal}
+use Rattle.tlv.specs.declared.Rejection.{Rejection}
 use Rattle.tlv.specs.declared.Refusal.TheVariants as refusal
 use Rattle.contents.specs.Contents.{Reading}
 use Rattle.contents.specs.declared.Contents.{Contents}
@@ -56,9 +57,9 @@ refused_by : (p : Port) (o : List ℕ) (why : Refusal) (place : ℕ) (a b : Bool
     (if not a then rejected refusal.NotRunning 0 p else if b then rejected refusal.SeveralNeighbours 0 p else given o x p).answer ≡ Err (rejection why place) →
     (if not a then rejected refusal.NotRunning 0 p else if b then rejected refusal.SeveralNeighbours 0 p else given o x p).port ≡ with_broken p (breaks why)
 unfolding given accepted frame_event rejected
-refused_by p o why place false b x e = let k : refusal.NotRunning ≡ why = cc in ap (λ (y : Refusal). with_broken p (breaks y)) k
-refused_by p o why place true true x e = let k : refusal.SeveralNeighbours ≡ why = cc in ap (λ (y : Refusal). with_broken p (breaks y)) k
-refused_by p o why place true false (Err r) e = let k : r.why ≡ why = cc in ap (λ (y : Refusal). with_broken p (breaks y)) k
+refused_by p o why place false b x e = let k : rejection refusal.NotRunning 0 ≡ rejection why place = cc in ap (λ (r : Rejection). with_broken p (breaks r.why)) k
+refused_by p o why place true true x e = let k : rejection refusal.SeveralNeighbours 0 ≡ rejection why place = cc in ap (λ (r : Rejection). with_broken p (breaks r.why)) k
+refused_by p o why place true false (Err r) e = let k : rejection r.why r.place ≡ rejection why place = cc in ap (λ (y : Rejection). with_broken p (breaks y.why)) k
 refused_by p o why place true false (Ok c) e = cc
 
 pub refused_marks : (p : Port) (o : List ℕ) (why : Refusal) (place : ℕ) → (handled p o).answer ≡ Err (rejection why place) → (handled p o).port ≡ with_broken p (breaks why)

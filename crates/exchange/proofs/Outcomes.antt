@@ -7,7 +7,7 @@ use mathlib.Core.Bool.{Bool, true, false, not, ◌&&◌, beq}
 use mathlib.Core.List.{◌∷◌}
 use lib.ListN.{length}
 use borrow.Author.Tests.{le-ltb, eq-eqb, eqb-true, not-false}
-use Rattle.std.specs.Prelude.{if◌then◌else◌}
+use Rattle.std.specs.Prelude.{if◌then◌else◌, Option, Some}
 use Rattle.octets.specs.Words.{◌below◌, ◌atmost◌, ◌is◌}
 use Rattle.octets.specs.Laws.{and_left, and_right}
 use Rattle.parameters.specs.declared.Feature.{Feature}
@@ -47,7 +47,7 @@ judged_by_error true true false willing oper p q = refl
 
 -- what is held of a peer with an error flag
 abbrev pub held_of : Side → Bool → Peer
-held_of x error = record { held = true; enable = x.setting.enable; willing = x.setting.willing; error = error; parameters = x.setting.desired }
+held_of x error = record { enable = x.setting.enable; willing = x.setting.willing; error = error; parameters = x.setting.desired }
 
 pub judged_error : (f : Feature) (s : Setting) (oper : ℕ) (peer : Side) (e d : Bool) →
     (judged f s oper (held_of peer e)).error ≡ (judged f s oper (held_of peer d)).error
@@ -102,7 +102,7 @@ ranked above same good f own old low p =
 -- what is held of it: of application entries our own
 abbrev pub read_of : Feature → Side → Bool → Peer
 read_of f x error =
-    record { held = true; enable = x.setting.enable; willing = x.setting.willing; error = error; parameters = stored (ours f (content x.setting.desired)) }
+    record { enable = x.setting.enable; willing = x.setting.willing; error = error; parameters = stored (ours f (content x.setting.desired)) }
 
 outcome_read : (f : Feature) (own peer : Side) (old oper : ℕ) (error : Bool) → valid f (content peer.setting.desired) ≡ true →
     outcome f own.max own.setting old (sent1 oper peer error)
@@ -128,14 +128,14 @@ outcome_by f own peer old oper error h =
     outcome_read f own peer old oper error h.valid ∙ ap (ranked _ _ true f own old (min own.max peer.max)) (read_whole f peer error h)
 
 -- the peer that is held afterwards, if one is
-ranked_peer : (a b : Bool) (f : Feature) (own : Side) (old low : ℕ) (p : Peer) (P : Peer → Type 0) → P no_peer → P p → P (ranked a b true f own old low p).peer
+ranked_peer : (a b : Bool) (f : Feature) (own : Side) (old low : ℕ) (p : Peer) (P : Option Peer → Type 0) → P no_peer → P (Some p) → P (ranked a b true f own old low p).peer
 unfolding ranked
 ranked_peer true b f own old low p P n h = n
 ranked_peer false false f own old low p P n h = n
 ranked_peer false true f own old low p P n h = rw judged_peer h
 
-pub peer_is : (adv : Bool) (f : Feature) (own peer : Side) (old : ℕ) (o : Offer) (P : Peer → Type 0) → SoundParameters f peer.setting.desired →
-    P no_peer → (adv ≡ true → P (held_of peer o.error)) → P (outcome f own.max own.setting old (written adv peer o)).peer
+pub peer_is : (adv : Bool) (f : Feature) (own peer : Side) (old : ℕ) (o : Offer) (P : Option Peer → Type 0) → SoundParameters f peer.setting.desired →
+    P no_peer → (adv ≡ true → P (Some (held_of peer o.error))) → P (outcome f own.max own.setting old (written adv peer o)).peer
 unfolding outcome written
 peer_is false f own peer old o P h n k = n
 peer_is true f own peer old o P h n k = rw (outcome_by f own peer old o.oper o.error h) (ranked_peer _ _ f own old _ (held_of peer o.error) P n (k refl))
