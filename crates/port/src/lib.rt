@@ -32,8 +32,8 @@ pub struct Control {
     pub broken: bool,
 }
 
-// The revision is fixed at creation (02, E11); `released` is what was last released of each feature, which is what frames carry (02,
-// E5).
+// The revision is fixed at creation (02, E11). Each feature is a field, called by name: a loop over them needs a match for each.
+// `released` is what was last released of each, which is what frames carry (02, E5).
 #[derive(Clone, Copy)]
 pub struct Port {
     pub revision: Revision,
