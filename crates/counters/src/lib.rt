@@ -7,22 +7,18 @@ ghost use Rattle.port.specs.Replies.{event_reply};
 ghost use Rattle.counters.specs.Counters.{counted, refusal_counted, reason_counted, reason_of, changed, further, rests, unchanged};
 
 use feature::State;
+use parameters::Each;
 use port::{Answer, Port};
 
 // How often the reason of each feature of an end became absent, duplicate, bad, waiting, disabled, agreed, not compatible and
 // control twice.
-#[derive(Clone, Copy, Debug, PartialEq, Eq)]
-pub struct Changes {
-    pub groups: [u64; 8],
-    pub flow: [u64; 8],
-    pub applications: [u64; 8],
-}
+pub type Changes = Each<[u64; 8]>;
 
 // Nothing is counted yet.
 pub fn unchanged() -> Changes
     ensures { result ≡ unchanged }
 {
-    Changes {
+    Each {
         groups: [0; 8],
         flow: [0; 8],
         applications: [0; 8],

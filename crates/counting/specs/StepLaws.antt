@@ -9,7 +9,7 @@ use Rattle.capture.specs.Capture.{form_of, frame_of}
 use Rattle.capture.specs.Steps.{clipped}
 use Rattle.capture.specs.HoldLaws.{Clipping, whole, long, clipping}
 use Rattle.numerals.specs.Numerals.{more}
-use Rattle.counters.specs.declared.Changes.{Changes}
+use Rattle.counters.specs.Counters.{Changes}
 use Rattle.counters.specs.Counters.{refusal_counted, changed, further, rests}
 use Rattle.counting.specs.declared.Tally.{Tally}
 use Rattle.counting.specs.Steps.{at_a, at_b, passed_by, line_as, with_line}

@@ -10,7 +10,8 @@ use Rattle.parameters.specs.declared.Feature.TheVariants.{Groups, Flow, Applicat
 use Rattle.machine.specs.State.{next}
 use Rattle.port.specs.declared.Control.{Control}
 use Rattle.port.specs.declared.Port.{Port}
-use Rattle.port.specs.declared.Released.{Released}
+use Rattle.parameters.specs.declared.Each.{Each}
+use Rattle.feature.specs.declared.Release.{Release}
 use Rattle.port.specs.Parts.{feature_of, released_of, with_control, release, running}
 use Rattle.sending.specs.Sending.{with_seq, step5, completed}
 use Rattle.sending.specs.Sending as sending
@@ -72,9 +73,9 @@ offers_sent p h = by (sending.raises_seq_no p)
 
 -- a port with the same releases and settings
 offers_kept : (p q : Port) → q.released ≡ p.released → ((f : Feature) → side_of q f ≡ side_of p f) → Offers p → Offers q
-offers_kept p q r s h Groups = ap (λ (x : Released). x.groups.setting) r ∙ h Groups ∙ sym (ap (λ (x : Side). x.setting) (s Groups))
-offers_kept p q r s h Flow = ap (λ (x : Released). x.flow.setting) r ∙ h Flow ∙ sym (ap (λ (x : Side). x.setting) (s Flow))
-offers_kept p q r s h Applications = ap (λ (x : Released). x.applications.setting) r ∙ h Applications ∙ sym (ap (λ (x : Side). x.setting) (s Applications))
+offers_kept p q r s h Groups = ap (λ (x : Each Release). x.groups.setting) r ∙ h Groups ∙ sym (ap (λ (x : Side). x.setting) (s Groups))
+offers_kept p q r s h Flow = ap (λ (x : Each Release). x.flow.setting) r ∙ h Flow ∙ sym (ap (λ (x : Side). x.setting) (s Flow))
+offers_kept p q r s h Applications = ap (λ (x : Each Release). x.applications.setting) r ∙ h Applications ∙ sym (ap (λ (x : Side). x.setting) (s Applications))
 
 -- what no frame changes: settings and flags
 pub record Kept (p q : Port) : Type 0 where

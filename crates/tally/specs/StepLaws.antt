@@ -2,7 +2,7 @@
 use Rattle.std.specs.Prelude.{◌≡◌, refl, Bool, ◌&&◌, replicate}
 use Rattle.port.specs.declared.Port.{Port}
 use Rattle.port.specs.Settled.{settled}
-use Rattle.counters.specs.declared.Changes.{Changes}
+use Rattle.counters.specs.Counters.{Changes}
 use Rattle.counters.specs.Counters.{unchanged}
 use Rattle.tally.specs.Steps.{begun}
 

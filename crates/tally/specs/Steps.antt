@@ -10,7 +10,7 @@ use Rattle.capture.specs.Steps.{Front, held_of}
 use Rattle.capture.specs.Feeding as feeding
 use Rattle.capture.specs.Feeding.{ended, feed_of}
 use Rattle.numerals.specs.Numerals.{decimal}
-use Rattle.counters.specs.declared.Changes.{Changes}
+use Rattle.counters.specs.Counters.{Changes}
 use Rattle.counters.specs.Counters.{unchanged}
 use Rattle.counting.specs.declared.Tally.{Tally}
 use Rattle.counting.specs.Steps.{with_line}
