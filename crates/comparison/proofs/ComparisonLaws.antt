@@ -4,20 +4,18 @@ use Prim.Native.Nat.{ℕ, suc, ◌+◌, ◌≤◌, ◌<◌}
 use Rattle.std.proofs.Common.{arith, zero-add, ap, ◌∙◌, drop_of_length-le}
 use Rattle.std.proofs.Math.Numerals.{add-one}
 use Rattle.std.proofs.Math.Path.{◌≡◌, refl, sym}
-use Rattle.std.specs.Prelude.{Bool, not, ◌&&◌, List, [], ◌∷◌, ◌++◌, take, replicate, if◌then◌else◌}
+use Rattle.std.specs.Prelude.{min, leb, Bool, not, ◌&&◌, List, [], ◌∷◌, ◌++◌, take, replicate, if◌then◌else◌, Some, None}
 use Rattle.std.proofs.Math.Bool.{true, false}
 use Rattle.std.proofs.Math.ListN.{length, drop, length-replicate}
 use Rattle.std.proofs.Math.Seq.{drop-cons, take-append_seam}
-use borrow.Author.Tests.{le-ltb, eq-eqb, ne_eqb, eqb-true, eqb-false, not-true, not-false}
+use borrow.Author.Tests.{le-ltb, eq-eqb, ne_eqb, eqb-true, eqb-false, not-true, not-false, leb-true, leb-false}
 use Rattle.octets.specs.Words.{◌is◌}
 use Rattle.octets.specs.Octets.{at, same}
 use Rattle.port.specs.declared.Port.{Port}
-use Rattle.port.specs.declared.Written.{Written}
+use Rattle.port.specs.Types.{Written}
 use Rattle.port.specs.Parts.{running}
 use Rattle.port.specs.Writing.{frame, to_write, output, Wrote}
 use Rattle.port.specs.WritingLaws.{FrameLength}
-use Rattle.words.specs.Text.{filled}
-use Rattle.comparison.specs.declared.Compared.{Compared}
 use Rattle.comparison.specs.Comparison.{is_due, differing, compared_with}
 
 -- ---- where two runs begin to differ: the first i octets are the same, and the rest decides
@@ -49,16 +47,26 @@ module _ {a b : List ℕ} {i : ℕ} where
       let t : i + 0 ≡ differing a b = rw (ne_eqb (at a i) (at b i) n) at s in
       omega (arith, t)
 
-  pub sharing_short : Sharing a b i → length b ≤ i → i ≡ differing a b
+  sharing_short : Sharing a b i → length b ≤ i → i ≡ differing a b
   sharing_short r h =
       let t : i + 0 ≡ differing a b = rw (drop_of_length-le b h, ends_none (drop i a)) at r.same in
       omega (arith, t)
 
-  pub sharing_end : Sharing a b i → length a ≤ i → i ≡ differing a b
+  sharing_all : Sharing a b i → length a ≤ i → i ≡ differing a b
   unfolding differing
-  sharing_end r h =
+  sharing_all r h =
       let t : i + 0 ≡ differing a b = rw (drop_of_length-le a h) at r.same in
       omega (arith, t)
+
+  pub sharing_end : {n : ℕ} → Sharing a b i → n ≡ min (length a) (length b) → n ≤ i → i ≤ n → n ≡ differing a b
+  sharing_end {n} r e h k = here (leb (length a) (length b)) refl
+    where
+      z : n ≡ i
+      z = omega arith
+
+      here : (q : Bool) → leb (length a) (length b) ≡ q → n ≡ differing a b
+      here true q = let l : length a ≤ i = omega (arith, e, h, k, leb-true (length a) (length b) q) in z ∙ sharing_all r l
+      here false q = let l : length b ≤ i = omega (arith, e, h, k, leb-false (length a) (length b) q) in z ∙ sharing_short r l
 
 next_is : (m n : ℕ) → (suc m is suc n) ≡ (m is n)
 next_is m n = by (m is n) refl
@@ -80,29 +88,42 @@ same_whole (x ∷ a) (y ∷ b) = by (x is y) (same_whole a b)
     by true e = rw (next_is (differing a b) (length a), next_is (differing a b) (length b)) e
     by false e = rw (ne_eqb 0 (suc (length a)) (λ z. omega arith)) refl
 
--- ---- a frame of a line
-
-pub frame_is : (x : List ℕ) {n : ℕ} {f o : List ℕ} → n ≡ length x → f ≡ filled x → o ≡ take n f → o ≡ x
-unfolding filled
-frame_is x a b c = c ∙ rw (a, b) (take-append_seam x _)
+-- ---- a frame beside what the port writes
 
 module _ (p : Port) {r : Bool} (er : r ≡ running p) where
-  pub compare_stopped : (x : List ℕ) → not r ≡ true → record { due = false; place = 0 } ≡ compared_with p x
+  pub compare_stopped : (x : List ℕ) → not r ≡ true → Some 0 ≡ compared_with p x
   unfolding compared_with is_due to_write
   compare_stopped x t =
       let s : running p ≡ false = sym er ∙ not-true r t in
       rw (s, ends_none x) refl
 
-  pub compare_running : not r ≡ false → (x : List ℕ) {n k place : ℕ} {f o b out : List ℕ} {w : Written} → n ≡ length x → f ≡ filled x → FrameLength p k
-      → Wrote p (replicate 513 0) w out → o ≡ take n f → b ≡ take k out → place ≡ differing o b → record { due = place is n && place is k; place = place } ≡ compared_with p x
-  unfolding compared_with is_due to_write output
-  compare_running t x {n} {k} {place} {f} {o} {b} {out} en ef lk w eo eb ep =
-      let s : running p ≡ true = sym er ∙ not-false r t in
-      let z : length {A = ℕ} (replicate 513 0) ≡ 513 = length-replicate {A = ℕ} 513 0 in
-      let q : out ≡ frame p ++ drop (length (frame p)) (replicate 513 0) = w.octets ∙ rw (s, le-ltb (length {A = ℕ} (replicate 513 0)) (length (frame p)) (omega (arith, lk.is, lk.small, z))) refl in
-      let g : b ≡ frame p = eb ∙ rw (lk.is, q) (take-append_seam (frame p) (drop (length (frame p)) (replicate 513 0))) in
-      let d : place ≡ differing x (frame p) = ep ∙ rw (frame_is x en ef eo, g) refl in
-      rw (s, d, en, lk.is) (here (same_whole x (frame p)))
-    where
-      here : {y : Bool} → y ≡ same x (frame p) → ◌≡◌ {A = Compared} (record { due = y; place = differing x (frame p) }) (record { due = same x (frame p); place = differing x (frame p) })
-      here e = rw e refl
+  module _ (t : not r ≡ false) (x : List ℕ) {k place : ℕ} {o b out : List ℕ} {y : Written} (lk : FrameLength p k) (eo : o ≡ x)
+      (w : Wrote p (replicate 513 0) y out) (eb : b ≡ take k out) (ep : place ≡ differing o b) where
+    runs : running p ≡ true
+    runs = sym er ∙ not-false r t
+
+    place_is : place ≡ differing x (frame p)
+    unfolding output
+    place_is =
+        let z : length {A = ℕ} (replicate 513 0) ≡ 513 = length-replicate {A = ℕ} 513 0 in
+        let q : out ≡ frame p ++ drop (length (frame p)) (replicate 513 0) = w.octets ∙ rw (runs, le-ltb (length {A = ℕ} (replicate 513 0)) (length (frame p)) (omega (arith, lk.is, lk.small, z))) refl in
+        let g : b ≡ frame p = eb ∙ rw (lk.is, q) (take-append_seam (frame p) (drop (length (frame p)) (replicate 513 0))) in
+        ep ∙ rw (eo, g) refl
+
+    due_is : (place is length o && place is k) ≡ is_due p x
+    unfolding is_due
+    due_is = rw (eo, place_is, lk.is, runs) (same_whole x (frame p))
+
+    pub compare_due : place ≡ length o → place ≡ k → None ≡ compared_with p x
+    unfolding compared_with
+    compare_due e f = let d : true ≡ is_due p x = rw (eq-eqb place (length o) e, eq-eqb place k f) at due_is in rw (← d) refl
+
+    other : (place is length o && place is k) ≡ false → Some place ≡ compared_with p x
+    unfolding compared_with to_write
+    other e = let d : is_due p x ≡ false = sym due_is ∙ e in rw (d, place_is, runs) refl
+
+    pub compare_long : (place ≡ length o → ⊥) → Some place ≡ compared_with p x
+    compare_long n = other (rw (ne_eqb place (length o) n) refl)
+
+    pub compare_short : place ≡ length o → (place ≡ k → ⊥) → Some place ≡ compared_with p x
+    compare_short e n = other (rw (eq-eqb place (length o) e, ne_eqb place k n) refl)

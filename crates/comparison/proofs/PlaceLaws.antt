@@ -2,15 +2,14 @@
 use Prim.Native.Nat.{ℕ, suc, ◌+◌, ◌-◌, ◌≤◌, ◌<◌}
 use native.Mathlib.Omega.{arith}
 use Rattle.std.proofs.Common.{lt-ltb, le-ltb}
-use Rattle.std.specs.Prelude.{◌≡◌, refl, List}
+use Rattle.std.specs.Prelude.{◌≡◌, refl, List, None}
 use Rattle.std.proofs.Math.ListN.{length}
 use Rattle.tlv.specs.declared.Head.{Head}
 use Rattle.tlv.specs.declared.Head.TheVariants.{End, Past, SubTlv}
 use Rattle.tlv.specs.Layout.{head_at}
-use Rattle.comparison.specs.declared.places.Position.TheVariants.{Inside, Behind}
-use Rattle.comparison.specs.Places.{position_at, position_from, position_in}
+use Rattle.comparison.specs.Places.{inside, position_at, position_from, position_in}
 
-pub position_head : (o : List ℕ) (place : ℕ) → place < 6 → Inside 0 place ≡ position_in o place
+pub position_head : (o : List ℕ) (place : ℕ) → place < 6 → inside 0 place ≡ position_in o place
 unfolding position_in
 position_head o place h = rw (lt-ltb place 6 h) refl
 
@@ -27,7 +26,7 @@ seeking_start o place h =
     record { reached = h; within = omega arith; same = rw (z, le-ltb place 6 h) refl }
 
 module _ {o : List ℕ} {place at i : ℕ} (r : Seeking o place at i) where
-  pub seeking_end : length o ≤ i → Behind ≡ position_in o place
+  pub seeking_end : length o ≤ i → None ≡ position_in o place
   unfolding position_from
   seeking_end h =
       let z : length o - i ≡ 0 = omega arith in
@@ -40,16 +39,16 @@ module _ {o : List ℕ} {place at i : ℕ} (r : Seeking o place at i) where
         let z : length o - i ≡ suc (length o - (i + 1)) = omega arith in
         rw e (rw z at r.same)
 
-    pub seeking_none : d ≡ End → Behind ≡ position_in o place
+    pub seeking_none : d ≡ End → None ≡ position_in o place
     unfolding position_at
     seeking_none f = rw f at next
 
-    pub seeking_past : d ≡ Past → Behind ≡ position_in o place
+    pub seeking_past : d ≡ Past → None ≡ position_in o place
     unfolding position_at
     seeking_past f = rw f at next
 
     module _ {type start n : ℕ} (f : d ≡ SubTlv type start n) where
-      pub seeking_inside : place < start + n → Inside type (place - at) ≡ position_in o place
+      pub seeking_inside : place < start + n → inside type (place - at) ≡ position_in o place
       unfolding position_at
       seeking_inside l = rw (lt-ltb place (start + n) l) at (rw f at next)
 

@@ -9,49 +9,37 @@ use port::Port;
 
 pub mod places;
 
-// A frame beside what the port writes: whether it is that, and where the two begin to differ.
-#[derive(Clone, Copy)]
-pub struct Compared {
-    pub due: bool,
-    pub place: usize,
-}
-
 // How many octets two runs have in common, up to the first that differs or the end of the shorter.
 fn common(a: &[u8], b: &[u8]) -> usize
     ensures { result ≡ differing a.now b.now }
 {
-    let mut i: usize = 0;
-    while i < a.len() {
-        if b.len() <= i {
-            return i;
-        }
+    let shorter = a.len().min(b.len());
+    for i in 0..shorter {
         if a[i] != b[i] {
             return i;
         }
-        i += 1;
     }
-    i
+    shorter
 }
 
-// Compares the frame of a line with what the port writes, which is nothing while it is stopped. No frame of a port is longer than
-// the space for it.
-pub fn compare(p: Port, line: &[u8]) -> Compared
-    ensures { result ≡ compared_with p (frame_of line.now) }
+// Compares the frame of a line with what the port writes, which is nothing while it is stopped: none where it is that, and else
+// where the two begin to differ. No frame of a port is longer than the space for it.
+pub fn compare(p: &Port, line: &[u8]) -> Option<usize>
+    ensures { result ≡ compared_with p.now (frame_of line.now) }
 {
-    if !port::writing::running(p) {
-        return Compared {
-            due: false,
-            place: 0,
-        };
+    if !port::writing::running(*p) {
+        return Some(0);
     }
-    let n = words::frame_length(line);
-    let frame = words::frame_octets(line);
-    let k = port::writing::frame_length(p);
+    let held = words::frame_of(line);
+    let frame = held.as_slice();
+    let k = port::writing::frame_length(*p);
     let mut space = [0; 513];
-    port::writing::write(p, &mut space);
-    let place = common(octets::first(&frame, n), octets::first(&space, k));
-    Compared {
-        due: (place == n) & (place == k),
-        place: place,
+    // A running port refuses only an output that its frame has no room in.
+    let _ = port::writing::write(*p, &mut space);
+    let place = common(frame, octets::first(&space, k));
+    if place == frame.len() && place == k {
+        None
+    } else {
+        Some(place)
     }
 }

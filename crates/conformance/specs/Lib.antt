@@ -1,5 +1,4 @@
 pub mod Conformance
 pub mod Steps
 pub mod Text
-pub mod StepLaws
 pub mod TextLaws

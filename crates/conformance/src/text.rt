@@ -16,8 +16,8 @@ pub fn verdict(t: Judged, out: &mut [u8]) -> usize
         return 0;
     }
     let c = t.course;
-    if t.rejected {
-        return ruling::put_rejected(out, numerals::more(c.lines), t.place);
+    match t.rejected {
+        Some(r) => ruling::put_rejected(out, numerals::more(c.lines), r.place),
+        None => ruling::put_accepted(out, c.sent),
     }
-    ruling::put_accepted(out, c.sent)
 }

@@ -8,7 +8,11 @@ use Rattle.feature.specs.Reasons.{reason_number}
 use Rattle.port.specs.declared.Port.{Port}
 use Rattle.port.specs.Settled.{settled}
 use Rattle.numerals.specs.Numerals.{more}
-use Rattle.counters.specs.declared.Changes.{Changes}
+use Rattle.parameters.specs.declared.Each.{Each}
+
+-- how often each feature's reason became one of eight: a row for each feature
+abbrev pub Changes : Type 0
+Changes = Each (List ℕ)
 
 -- one more at place i of a row of eight, if it has that place
 unfoldable pub counted : List ℕ → ℕ → List ℕ

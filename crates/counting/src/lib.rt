@@ -1,12 +1,13 @@
-// Lines of a capture, each given to the port of the other end and counted (02, E8), as they end in a read.
+// Lines of a capture, each given to the port of the other end and counted (02, E8), as it ends.
 #![tactic(auto)]
 
 ghost use Rattle.std.specs.Prelude.{◌≡◌};
 ghost use Rattle.handling.specs.Handling.{handled};
 ghost use Rattle.capture.specs.Capture.{frame_of};
-ghost use Rattle.counting.specs.StepLaws.{Passes};
+ghost use Rattle.counting.specs.Steps.{with_line as tally_with_line};
+ghost use Rattle.counting.specs.StepLaws.{with_clipped};
 
-use capture::Form;
+use capture::{Form, Lines};
 use counters::Changes;
 use port::{Event, Port};
 
@@ -30,68 +31,38 @@ pub struct Tally {
 fn handle(p: Port, line: &[u8]) -> Event
     ensures { result ≡ handled p (frame_of line.now) }
 {
-    let n = words::frame_length(line);
-    let frame = words::frame_octets(line);
-    handling::handle(p, octets::first(&frame, n))
+    handling::handle(p, words::frame_of(line).as_slice())
 }
 
-// The counts behind the last line feed of a read, and its place.
-#[derive(Clone, Copy)]
-pub struct Passed {
-    pub tally: Tally,
-    pub at: usize,
-}
+// Of a line only the port at hand moves, and its counts; the other stays where it is.
+impl Lines for Tally {
+    ghost with_line = { tally_with_line };
 
-// Counts the lines that end in `s`. The first of them began before `s`, and is `front` as a whole. The ports stay where they are:
-// of a line only the port at hand moves.
-pub fn pass_lines<'a>(start: Tally, front: &'a [u8], s: &'a [u8]) -> Passed
-    ensures { Passes start front.now s.now result }
-{
-    let mut t = start;
-    let mut at: usize = 0;
-    while at < s.len() {
-        let rest = octets::from(s, at);
-        let n = capture::line_length(rest);
-        if rest.len() <= n {
-            return Passed { tally: t, at: at };
-        }
-        let line = capture::chosen(at == 0, front, octets::first(rest, n));
-        at = at + n + 1;
-        let form = capture::form_of(line);
-        match form {
+    fn take_line(&mut self, line: &[u8]) {
+        match capture::form_of(line) {
             Form::FromA => {
-                let e = handle(t.b, line);
-                let answer = e.answer;
-                t.from_a = numerals::more(t.from_a);
-                let row = t.refusals;
-                let at_b = counters::count_refusal(row, answer);
-                t.refusals = at_b;
-                t.of_b = counters::count_reasons(t.of_b, t.b, e.port);
-                let port = e.port;
-                t.b = port;
-                t.frames = counters::count_further(t.settled, t.frames);
-                t.settled = counters::at_rest(t.settled, t.a, t.b);
-                continue;
+                let at_b = handle(self.b, line);
+                self.from_a = numerals::more(self.from_a);
+                counters::count_refusal(&mut self.refusals, at_b.answer);
+                counters::count_reasons(&mut self.of_b, &self.b, &at_b.port);
+                self.b = at_b.port;
+                self.frames = counters::count_further(self.settled, self.frames);
+                self.settled = counters::at_rest(self.settled, &self.a, &self.b);
             }
             Form::FromB => {
-                let e = handle(t.a, line);
-                let answer = e.answer;
-                t.from_b = numerals::more(t.from_b);
-                let row = t.refusals;
-                let at_a = counters::count_refusal(row, answer);
-                t.refusals = at_a;
-                t.of_a = counters::count_reasons(t.of_a, t.a, e.port);
-                let port = e.port;
-                t.a = port;
-                t.frames = counters::count_further(t.settled, t.frames);
-                t.settled = counters::at_rest(t.settled, t.a, t.b);
-                continue;
+                let at_a = handle(self.a, line);
+                self.from_b = numerals::more(self.from_b);
+                counters::count_refusal(&mut self.refusals, at_a.answer);
+                counters::count_reasons(&mut self.of_a, &self.a, &at_a.port);
+                self.a = at_a.port;
+                self.frames = counters::count_further(self.settled, self.frames);
+                self.settled = counters::at_rest(self.settled, &self.a, &self.b);
             }
             Form::Other => {
-                t.others = numerals::more(t.others);
-                continue;
+                self.others = numerals::more(self.others);
             }
         }
     }
-    Passed { tally: t, at: at }
+
+    ghost long = { with_clipped };
 }

@@ -16,7 +16,8 @@ use Rattle.feature.specs.declared.Switches.{Switches}
 use Rattle.machine.specs.State.{fresh_at, fresh, setting_of}
 use Rattle.port.specs.declared.Control.{Control}
 use Rattle.port.specs.declared.Port.{Port}
-use Rattle.port.specs.declared.Released.{Released}
+use Rattle.parameters.specs.declared.Each.{Each}
+use Rattle.feature.specs.declared.Release.{Release}
 use Rattle.port.specs.declared.Versions.{Versions}
 use Rattle.port.specs.declared.Notices.{Notices}
 use Rattle.port.specs.declared.Event.{Event}
@@ -27,7 +28,7 @@ use Rattle.events.specs.PortEvents.{silent, refused}
 use Rattle.creation.specs.Creation.{blank_parameters, blank_port, started, made, created_with, created, settings_valid}
 
 pub start_is : (v : Versions) (g w a : Setting) {x y z : State} {c : Control} {p : Port} → x ≡ fresh_at 1 v.groups g → y ≡ fresh_at 1 v.flow w
-    → z ≡ fresh_at 1 v.applications a → c ≡ fresh_control v.control → {r : Released} → r ≡ presents x y z
+    → z ≡ fresh_at 1 v.applications a → c ≡ fresh_control v.control → {r : Each Release} → r ≡ presents x y z
     → p ≡ sent (record { revision = v.revision; admin = true; receive = true; transmit = true; several = false; control = c; groups = x; flow = y; applications = z; released = r })
     → p ≡ started v g w a
 unfolding started
@@ -37,7 +38,7 @@ pub blank_state_lem : (f : Feature) (o : List ℕ) {s : Setting} {x : State} →
 blank_state_lem f o es ex = ex ∙ rw es refl
 
 pub blank_is : {c : Control} {g w a : State} {o : List ℕ} → c ≡ fresh_control 0 → g ≡ fresh 0 (setting_of Groups switched_off (0 ∷ 0 ∷ 0 ∷ 0 ∷ 100 ∷ 0 ∷ 0 ∷ 0 ∷ 0 ∷ 0 ∷ 0 ∷ 0 ∷ 0 ∷ []))
-    → w ≡ fresh 0 (setting_of Flow switched_off (replicate 2 0)) → o ≡ [] → a ≡ fresh 0 (setting_of Applications switched_off o) → {r : Released} → r ≡ presents g w a
+    → w ≡ fresh 0 (setting_of Flow switched_off (replicate 2 0)) → o ≡ [] → a ≡ fresh 0 (setting_of Applications switched_off o) → {r : Each Release} → r ≡ presents g w a
     → record { revision = Rev101; admin = false; receive = false; transmit = false; several = false; control = c; groups = g; flow = w; applications = a; released = r } ≡ blank_port
 unfolding blank_port blank_parameters
 blank_is ec eg ew eo ea er = rw (er, ec, eg, ew, ea, eo) refl

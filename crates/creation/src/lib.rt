@@ -112,6 +112,7 @@ fn create_with(
 // Creates a port in the place of another: the switches and the parameters, as octets, of priority groups, flow control and
 // applications. An invalid setting is refused, and leaves the other (01, Refusal numbers). Under Rev 1.0
 // nothing is taken for applications: what is given for them is not looked at.
+// Switches and octets are not put into one struct: the arguments of a public operation stay.
 pub fn create(
     p: Port,
     v: Versions,

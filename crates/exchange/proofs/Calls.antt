@@ -2,6 +2,7 @@
 -- port wrote is handled as its message. Assumes nothing.
 use Rattle.tlv.specs.Refusals.{rejection}
 use Prim.Native.Nat.{ℕ}
+use native.Mathlib.Omega.{arith}
 use mathlib.Core.Path.{◌≡◌, refl, ap, ◌∙◌}
 use mathlib.Core.Bool.{Bool, true, false, not}
 use mathlib.Core.List.{List, ◌++◌}
@@ -10,6 +11,7 @@ use lib.Seq.{take-append_seam}
 use Rattle.std.specs.Prelude.{if◌then◌else◌, Ok, Err}
 use Rattle.octets.specs.Words.{◌below◌, ◌is◌}
 use Rattle.tlv.specs.declared.Refusal.{Refusal}
+use Rattle.tlv.specs.declared.Rejection.{Rejection}
 use Rattle.tlv.specs.declared.Refusal.TheVariants as refusal
 use Rattle.contents.specs.Contents.{Reading}
 use Rattle.contents.specs.declared.Contents.{Contents}
@@ -56,9 +58,9 @@ refused_by : (p : Port) (o : List ℕ) (why : Refusal) (place : ℕ) (a b : Bool
     (if not a then rejected refusal.NotRunning 0 p else if b then rejected refusal.SeveralNeighbours 0 p else given o x p).answer ≡ Err (rejection why place) →
     (if not a then rejected refusal.NotRunning 0 p else if b then rejected refusal.SeveralNeighbours 0 p else given o x p).port ≡ with_broken p (breaks why)
 unfolding given accepted frame_event rejected
-refused_by p o why place false b x e = let k : refusal.NotRunning ≡ why = cc in ap (λ (y : Refusal). with_broken p (breaks y)) k
-refused_by p o why place true true x e = let k : refusal.SeveralNeighbours ≡ why = cc in ap (λ (y : Refusal). with_broken p (breaks y)) k
-refused_by p o why place true false (Err r) e = let k : r.why ≡ why = cc in ap (λ (y : Refusal). with_broken p (breaks y)) k
+refused_by p o why place false b x e = let k : rejection refusal.NotRunning 0 ≡ rejection why place = cc in ap (λ (r : Rejection). with_broken p (breaks r.why)) k
+refused_by p o why place true true x e = let k : rejection refusal.SeveralNeighbours 0 ≡ rejection why place = cc in ap (λ (r : Rejection). with_broken p (breaks r.why)) k
+refused_by p o why place true false (Err r) e = let k : rejection r.why r.place ≡ rejection why place = cc in ap (λ (y : Rejection). with_broken p (breaks y.why)) k
 refused_by p o why place true false (Ok c) e = cc
 
 pub refused_marks : (p : Port) (o : List ℕ) (why : Refusal) (place : ℕ) → (handled p o).answer ≡ Err (rejection why place) → (handled p o).port ≡ with_broken p (breaks why)
@@ -78,8 +80,7 @@ read_as Rev10 o c e = ap skipping e
 
 pub control_as : (v : Revision) (c : Contents) → (contents_for v c).control ≡ c.control
 unfolding contents_for
-control_as Rev101 c = refl
-control_as Rev10 c = refl
+control_as v c = grind arith
 
 received_blind : (x : State) (r s : Received) → x.setting.advertise ≡ false → received Applications r x ≡ received Applications s x
 unfolding received

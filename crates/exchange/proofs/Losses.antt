@@ -1,9 +1,11 @@
 -- What an end holds for a peer is the peer's own, whichever calls were made. Assumes nothing.
 use Prim.Native.Nat.{ℕ}
-use mathlib.Core.Path.{◌≡◌, refl, ◌∙◌}
-use mathlib.Core.Bool.{Bool, true, false, false≢true}
+use mathlib.Core.Path.{◌≡◌, refl, ap, ◌∙◌}
+use mathlib.Core.Bool.{Bool, true, false}
 use mathlib.Core.List.{List}
 use mathlib.Core.Option.{Option, none, some}
+use Rattle.std.specs.Prelude as prelude
+use Rattle.std.specs.Prelude.{None, Some}
 use Rattle.parameters.specs.declared.Feature.{Feature}
 use Rattle.feature.specs.declared.Peer.{Peer}
 use Rattle.feature.specs.declared.Outcome.{Outcome}
@@ -14,21 +16,24 @@ use Rattle.port.specs.Sound.{SoundParameters}
 use Rattle.rounds.specs.Rounds.{left, right, Call, refused, writes, handles}
 use Rattle.exchange.specs.Expected.{Side}
 use Rattle.exchange.proofs.Core.{Settings, Offer, Machine, Core, written, message, synced, marked, handled, fresh_machine, started, gated, recv}
-use Rattle.exchange.proofs.Outcomes.{peer_is}
+use Rattle.exchange.proofs.Outcomes.{held_of, peer_is}
 use Rattle.exchange.proofs.Pairs.{Pair, given, step, run, begin, run_keeps}
 use Rattle.exchange.proofs.Stages.{Fit}
 
 -- none, or the peer's own enable, willing and parameters, which the peer advertises
-abbrev pub Own : Side → Peer → Type 0
-Own x p = p.held ≡ true → (x.setting.advertise ≡ true) × (p.enable ≡ x.setting.enable) × (p.willing ≡ x.setting.willing) × (p.parameters ≡ x.setting.desired)
+abbrev pub Own : Side → prelude.Option Peer → Type 0
+Own x p = (q : Peer) → p ≡ Some q → (x.setting.advertise ≡ true) × (q.enable ≡ x.setting.enable) × (q.willing ≡ x.setting.willing) × (q.parameters ≡ x.setting.desired)
 
 own_none : (x : Side) → Own x no_peer
-own_none x e = absurd (false≢true e)
+own_none x q e = cc
 
 module _ (f : Feature) (own peer : Side) (good : SoundParameters f peer.setting.desired) where
   outcome_own : (adv : Bool) → peer.setting.advertise ≡ adv → (old : ℕ) (o : Offer) →
       Own peer (outcome f own.max own.setting old (written adv peer o)).peer
-  outcome_own adv a old o = peer_is adv f own peer old o (Own peer) good (own_none peer) (λ t e. (a ∙ t, refl, refl, refl))
+  outcome_own adv a old o =
+      peer_is adv f own peer old o (Own peer) good (own_none peer)
+      (λ t q e. let k : q ≡ held_of peer o.error = cc in
+      (a ∙ t, ap (λ (x : Peer). x.enable) k, ap (λ (x : Peer). x.willing) k, ap (λ (x : Peer). x.parameters) k))
 
   marked_own : (c : Bool) (seq : ℕ) (o : Outcome) (x : Machine) → Own peer o.peer → Own peer (marked c seq o x).outcome.peer
   unfolding marked

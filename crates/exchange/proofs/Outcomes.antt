@@ -7,7 +7,7 @@ use mathlib.Core.Bool.{Bool, true, false, not, ◌&&◌, beq}
 use mathlib.Core.List.{◌∷◌}
 use lib.ListN.{length}
 use borrow.Author.Tests.{le-ltb, eq-eqb, eqb-true, not-false}
-use Rattle.std.specs.Prelude.{if◌then◌else◌}
+use Rattle.std.specs.Prelude.{if◌then◌else◌, Option, Some}
 use Rattle.octets.specs.Words.{◌below◌, ◌atmost◌, ◌is◌}
 use Rattle.octets.specs.Laws.{and_left, and_right}
 use Rattle.parameters.specs.declared.Feature.{Feature}
@@ -40,14 +40,11 @@ version_le true own peer = min-le_left _ _
 -- the Error does not depend on the peer's error flag
 judged_by_error : (a b c willing : Bool) (oper : ℕ) (p q : Peer) → (judged_by a b c willing oper p).error ≡ (judged_by a b c willing oper q).error
 unfolding judged_by
-judged_by_error false b c willing oper p q = refl
-judged_by_error true false c willing oper p q = refl
-judged_by_error true true true willing oper p q = refl
-judged_by_error true true false willing oper p q = refl
+judged_by_error a b c willing oper p q = grind arith
 
 -- what is held of a peer with an error flag
 abbrev pub held_of : Side → Bool → Peer
-held_of x error = record { held = true; enable = x.setting.enable; willing = x.setting.willing; error = error; parameters = x.setting.desired }
+held_of x error = record { enable = x.setting.enable; willing = x.setting.willing; error = error; parameters = x.setting.desired }
 
 pub judged_error : (f : Feature) (s : Setting) (oper : ℕ) (peer : Side) (e d : Bool) →
     (judged f s oper (held_of peer e)).error ≡ (judged f s oper (held_of peer d)).error
@@ -56,34 +53,13 @@ judged_error f s oper peer e d = simp judged_by_lem (judged_by_error _ _ _ s.wil
 -- ---- flags are read as they are written
 
 pub flag_enable : (en wi er : Bool) → (128 atmost flags en wi er) ≡ en
-flag_enable true true true = refl
-flag_enable true true false = refl
-flag_enable true false true = refl
-flag_enable true false false = refl
-flag_enable false true true = refl
-flag_enable false true false = refl
-flag_enable false false true = refl
-flag_enable false false false = refl
+flag_enable en wi er = grind arith
 
 pub flag_willing : (en wi er : Bool) → (64 atmost flags en wi er % 128) ≡ wi
-flag_willing true true true = refl
-flag_willing true true false = refl
-flag_willing true false true = refl
-flag_willing true false false = refl
-flag_willing false true true = refl
-flag_willing false true false = refl
-flag_willing false false true = refl
-flag_willing false false false = refl
+flag_willing en wi er = grind arith
 
 pub flag_error : (en wi er : Bool) → (32 atmost flags en wi er % 64) ≡ er
-flag_error true true true = refl
-flag_error true true false = refl
-flag_error true false true = refl
-flag_error true false false = refl
-flag_error false true true = refl
-flag_error false true false = refl
-flag_error false false true = refl
-flag_error false false false = refl
+flag_error en wi er = grind arith
 
 -- ---- rules 1 to 9 for a sub-TLV that a port wrote
 
@@ -102,7 +78,7 @@ ranked above same good f own old low p =
 -- what is held of it: of application entries our own
 abbrev pub read_of : Feature → Side → Bool → Peer
 read_of f x error =
-    record { held = true; enable = x.setting.enable; willing = x.setting.willing; error = error; parameters = stored (ours f (content x.setting.desired)) }
+    record { enable = x.setting.enable; willing = x.setting.willing; error = error; parameters = stored (ours f (content x.setting.desired)) }
 
 outcome_read : (f : Feature) (own peer : Side) (old oper : ℕ) (error : Bool) → valid f (content peer.setting.desired) ≡ true →
     outcome f own.max own.setting old (sent1 oper peer error)
@@ -128,14 +104,14 @@ outcome_by f own peer old oper error h =
     outcome_read f own peer old oper error h.valid ∙ ap (ranked _ _ true f own old (min own.max peer.max)) (read_whole f peer error h)
 
 -- the peer that is held afterwards, if one is
-ranked_peer : (a b : Bool) (f : Feature) (own : Side) (old low : ℕ) (p : Peer) (P : Peer → Type 0) → P no_peer → P p → P (ranked a b true f own old low p).peer
+ranked_peer : (a b : Bool) (f : Feature) (own : Side) (old low : ℕ) (p : Peer) (P : Option Peer → Type 0) → P no_peer → P (Some p) → P (ranked a b true f own old low p).peer
 unfolding ranked
 ranked_peer true b f own old low p P n h = n
 ranked_peer false false f own old low p P n h = n
 ranked_peer false true f own old low p P n h = rw judged_peer h
 
-pub peer_is : (adv : Bool) (f : Feature) (own peer : Side) (old : ℕ) (o : Offer) (P : Peer → Type 0) → SoundParameters f peer.setting.desired →
-    P no_peer → (adv ≡ true → P (held_of peer o.error)) → P (outcome f own.max own.setting old (written adv peer o)).peer
+pub peer_is : (adv : Bool) (f : Feature) (own peer : Side) (old : ℕ) (o : Offer) (P : Option Peer → Type 0) → SoundParameters f peer.setting.desired →
+    P no_peer → (adv ≡ true → P (Some (held_of peer o.error))) → P (outcome f own.max own.setting old (written adv peer o)).peer
 unfolding outcome written
 peer_is false f own peer old o P h n k = n
 peer_is true f own peer old o P h n k = rw (outcome_by f own peer old o.oper o.error h) (ranked_peer _ _ f own old _ (held_of peer o.error) P n (k refl))

@@ -1,7 +1,8 @@
 -- Demand 3: two running ends, just started. Each claim is one about a whole list of rounds.
-use Rattle.std.specs.Prelude.{◌≤◌, ◌≡◌, true, false, List, length}
+use Rattle.std.specs.Prelude.{◌≤◌, ◌≡◌, true, false, Some, List, length}
 use Rattle.std.proofs.Math.Option.{none}
 use Rattle.parameters.specs.declared.Feature.{Feature}
+use Rattle.feature.specs.declared.Peer.{Peer}
 use Rattle.feature.specs.Outcome.{lower}
 use Rattle.feature.specs.Outcome as rules
 use Rattle.port.specs.declared.Port.{Port}
@@ -43,11 +44,11 @@ pub record Agreed (own peer p : Port) : Type 0 where
 
 -- Second half: what an end holds of its peer is none or exactly the peer's own, of a feature that the peer advertises
 pub record Truthful (peer p : Port) : Type 0 where
-  pub own : (f : Feature) → (feature_of p f).outcome.peer.held ≡ true
+  pub own : (f : Feature) (q : Peer) → (feature_of p f).outcome.peer ≡ Some q
       → ((feature_of peer f).setting.advertise ≡ true)
-      × ((feature_of p f).outcome.peer.enable ≡ (feature_of peer f).setting.enable)
-      × ((feature_of p f).outcome.peer.willing ≡ (feature_of peer f).setting.willing)
-      × ((feature_of p f).outcome.peer.parameters ≡ (feature_of peer f).setting.desired)
+      × (q.enable ≡ (feature_of peer f).setting.enable)
+      × (q.willing ≡ (feature_of peer f).setting.willing)
+      × (q.parameters ≡ (feature_of peer f).setting.desired)
 
 -- both halves of both ends, as they were and as they are now
 abbrev pub BothAgreed : Ends → Ends → Type 0

@@ -30,7 +30,8 @@ use Rattle.admission.specs.declared.Heard.{Heard}
 use Rattle.handling.specs.declared.Change.{Change}
 use Rattle.port.specs.declared.Control.{Control}
 use Rattle.port.specs.declared.Port.{Port}
-use Rattle.port.specs.declared.Released.{Released}
+use Rattle.parameters.specs.declared.Each.{Each}
+use Rattle.feature.specs.declared.Release.{Release}
 use Rattle.port.specs.declared.Notices.{Notices}
 use Rattle.port.specs.declared.Event.{Event}
 use Rattle.notices.specs.declared.Kind.TheVariants.{DuplicateControl}
@@ -75,7 +76,7 @@ completed_by o c p = by (1 below c.control.count) ((message o c).oper is lower p
     by false false ea eb =
         rw (ea, eb) (sent_counted p (met (lower p.control.max (message o c).max) p.control) (λ f. marked f p.control.seq (feature_of p f) (feature_of p f)))
 
-pub release_is : (p : Port) {r : Released} → r ≡ presents p.groups p.flow p.applications → with_released p r ≡ release p
+pub release_is : (p : Port) {r : Each Release} → r ≡ presents p.groups p.flow p.applications → with_released p r ≡ release p
 release_is p e = rw e refl
 
 -- whether SeqNo goes up, by the way that the frame takes

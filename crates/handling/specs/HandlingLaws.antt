@@ -15,7 +15,8 @@ use Rattle.admission.specs.declared.Heard.{Heard}
 use Rattle.handling.specs.declared.Change.{Change}
 use Rattle.port.specs.declared.Control.{Control}
 use Rattle.port.specs.declared.Port.{Port}
-use Rattle.port.specs.declared.Released.{Released}
+use Rattle.parameters.specs.declared.Each.{Each}
+use Rattle.feature.specs.declared.Release.{Release}
 use Rattle.port.specs.Parts.{feature_of, with_control, with_features, presents, with_released, some}
 use Rattle.port.specs.Writing.{asks}
 use Rattle.sending.specs.SendingLaws.{counted}
@@ -36,7 +37,7 @@ waits_by t = not t.syncd
 -- ---- the port
 
 -- what is released behind it
-abbrev pub released_by : Released → Bool → State → State → State → Released
+abbrev pub released_by : Each Release → Bool → State → State → State → Each Release
 released_by r up g w a = if up then presents g w a else r
 
 -- the port after a frame, by the way that the frame takes

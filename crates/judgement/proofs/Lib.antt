@@ -1,2 +1,1 @@
-pub mod CourseLaws
 pub mod StepLaws

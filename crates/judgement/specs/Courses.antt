@@ -1,7 +1,6 @@
 -- 02, E12, and its issue: "what state our port was in, and which line led there". Lines by their kind, and two of them by number.
-use Rattle.std.specs.Prelude.{ℕ, true, false}
-use Rattle.port.specs.declared.Answer.{Answer}
-use Rattle.port.specs.declared.Answer.TheVariants.{Done, Refused}
+use Rattle.std.specs.Prelude.{ℕ, true, false, Ok, Err}
+use Rattle.port.specs.Types.{Answer}
 use Rattle.port.specs.declared.Port.{Port}
 use Rattle.recorder.specs.declared.Change.TheVariants as change
 use Rattle.recorder.specs.Recorder.{happens}
@@ -10,14 +9,14 @@ use Rattle.judgement.specs.Entries.{Entry, Sent, Given, Changed, Passed}
 
 -- the last line whose event asked for a send, behind which the port writes otherwise than before
 unfoldable pub since_by : Answer → ℕ → ℕ → ℕ
-since_by (Done true) line before = line
-since_by (Done false) line before = before
-since_by (Refused why place) line before = before
+since_by (Ok true) line before = line
+since_by (Ok false) line before = before
+since_by (Err why) line before = before
 
 -- the last line whose event the port took
 unfoldable pub taken_by : Answer → ℕ → ℕ → ℕ
-taken_by (Done send) line before = line
-taken_by (Refused why place) line before = before
+taken_by (Ok send) line before = line
+taken_by (Err why) line before = before
 
 -- numbers go up as a counter does, or as plain numbers do
 unfoldable pub sent_on : (ℕ → ℕ) → Course → Course

@@ -1,22 +1,17 @@
 -- 02, E12: what a line of one end's capture says, and what it does to the port.
-use Rattle.std.specs.Prelude.{ℕ, Bool, true, false, List, [], take}
+use Rattle.std.specs.Prelude.{ℕ, Bool, true, false, List, [], Option, Some, None, Ok, Err}
 use Rattle.port.specs.declared.Port.{Port}
-use Rattle.port.specs.declared.Flag.{Flag}
-use Rattle.port.specs.declared.Flag.TheVariants as flag
 use Rattle.recorder.specs.declared.Change.{Change}
 use Rattle.recorder.specs.declared.Change.TheVariants as change
 use Rattle.recorder.specs.Recorder.{happens}
-use Rattle.lines.specs.declared.Flag as lines
-use Rattle.lines.specs.declared.Flag.TheVariants as word
 use Rattle.lines.specs.declared.Kind.{Kind}
 use Rattle.lines.specs.declared.Kind.TheVariants as said
-use Rattle.lines.specs.declared.Line.{Line}
+use Rattle.words.specs.Text.{pending}
+use Rattle.lines.specs.Lines.{Parsed}
 use Rattle.script.specs.Events.{event_line}
 use Rattle.capture.specs.declared.Form.{Form}
 use Rattle.capture.specs.declared.Form.TheVariants.{FromA, FromB, Other}
 use Rattle.capture.specs.Capture.{form_of, frame_of}
-use Rattle.judgement.specs.declared.Told.{Told}
-use Rattle.judgement.specs.declared.Told.TheVariants as told
 
 -- "Frames are E8's lines, `A` the judged end. Settings changes, flag changes and peer gone are lines too, in a form docs/ fixes; other lines are
 -- passed over."
@@ -26,12 +21,6 @@ pub data Entry : Type 0 where
   Changed : Change → List ℕ → Entry
   Passed : Entry
 
-unfoldable pub flag_of : lines.Flag → Flag
-flag_of word.Admin = flag.Admin
-flag_of word.Receive = flag.Receive
-flag_of word.Transmit = flag.Transmit
-flag_of word.Several = flag.Several
-
 -- the octets of a frame or of parameters
 unfoldable pub octets_in : Entry → List ℕ
 octets_in (Sent o) = o
@@ -40,24 +29,24 @@ octets_in (Changed x o) = o
 octets_in Passed = []
 
 -- the changes among the lines of `desk`
-unfoldable pub told_by : Kind → Told
-told_by said.Gone = told.Change change.PeerGone
-told_by (said.Flag x on) = told.Change (change.Flag (flag_of x) on)
-told_by (said.Setting n advertise enable willing) = told.Change (change.Setting n (record { advertise = advertise; enable = enable; willing = willing }))
-told_by (said.Unreadable why) = told.Nothing
-told_by (said.Control n r) = told.Nothing
-told_by said.Frame = told.Nothing
-told_by (said.Write room) = told.Nothing
-told_by said.Take = told.Nothing
-told_by said.Show = told.Nothing
+unfoldable pub told_by : Kind → Option Change
+told_by said.Gone = Some change.PeerGone
+told_by (said.Flag x on) = Some (change.Flag x on)
+told_by (said.Setting n switches) = Some (change.Setting n switches)
+told_by (said.Control n r) = None
+told_by said.Frame = None
+told_by (said.Write room) = None
+told_by said.Take = None
+told_by said.Show = None
 
-unfoldable pub entry_by : Told → List ℕ → Entry
-entry_by (told.Change x) o = Changed x o
-entry_by told.Nothing o = Passed
+unfoldable pub entry_by : Option Change → List ℕ → Entry
+entry_by (Some x) o = Changed x o
+entry_by None o = Passed
 
--- what a line of `desk` says, with the octets of its parameters
-abbrev pub change_on : Line → Entry
-change_on l = entry_by (told_by l.kind) (take l.n l.octets)
+-- what a line of `desk` says, with the octets of its parameters; one that cannot be read is passed over
+unfoldable pub change_on : Parsed → Entry
+change_on (Ok l) = entry_by (told_by l.kind) (pending l.octets)
+change_on (Err why) = Passed
 
 unfoldable pub entry_as : Form → List ℕ → Entry
 entry_as FromA l = Sent (frame_of l)

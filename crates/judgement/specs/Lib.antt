@@ -1,3 +1,4 @@
 pub mod Entries
 pub mod Courses
 pub mod Steps
+pub mod Clips

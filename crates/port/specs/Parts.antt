@@ -10,7 +10,7 @@ use Rattle.port.specs.declared.Flag.{Flag}
 use Rattle.port.specs.declared.Flag.TheVariants.{Admin, Receive, Transmit, Several}
 use Rattle.port.specs.declared.Control.{Control}
 use Rattle.port.specs.declared.Port.{Port}
-use Rattle.port.specs.declared.Released.{Released}
+use Rattle.parameters.specs.declared.Each.{Each}
 use Rattle.port.specs.declared.Versions.{Versions}
 
 abbrev pub feature_of : Port → Feature → State
@@ -69,10 +69,10 @@ with_features p x =
     }
 
 -- what a release would write of three features at present
-abbrev pub presents : State → State → State → Released
+abbrev pub presents : State → State → State → Each Release
 presents g w a = record { groups = present g; flow = present w; applications = present a }
 
-abbrev pub with_released : Port → Released → Port
+abbrev pub with_released : Port → Each Release → Port
 with_released p r =
     record {
       revision = p.revision;

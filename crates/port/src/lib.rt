@@ -4,6 +4,7 @@
 
 use feature::{Release, State};
 use notices::Kind;
+use parameters::Each;
 use tlv::{Refusal, Rejection, Revision};
 
 pub mod writing;
@@ -31,7 +32,8 @@ pub struct Control {
     pub broken: bool,
 }
 
-// The revision is fixed at creation (02, E11).
+// The revision is fixed at creation (02, E11). Each feature is a field, called by name: a loop over them needs a match for each.
+// `released` is what was last released of each, which is what frames carry (02, E5).
 #[derive(Clone, Copy)]
 pub struct Port {
     pub revision: Revision,
@@ -43,15 +45,7 @@ pub struct Port {
     pub groups: State,
     pub flow: State,
     pub applications: State,
-    pub released: Released,
-}
-
-// What was last released of each feature, which is what frames carry (02, E5).
-#[derive(Clone, Copy)]
-pub struct Released {
-    pub groups: Release,
-    pub flow: Release,
-    pub applications: Release,
+    pub released: Each<Release>,
 }
 
 // The revision and the highest versions, fixed at creation.

@@ -21,7 +21,7 @@ use Rattle.capture.specs.declared.Form.{Form}
 use Rattle.capture.specs.declared.Form.TheVariants.{FromA, FromB, Other}
 use Rattle.capture.specs.Capture.{form_of, frame_of}
 use Rattle.capture.specs.Feeding.{in_turn}
-use Rattle.counters.specs.declared.Changes.{Changes}
+use Rattle.counters.specs.Counters.{Changes}
 use Rattle.counting.specs.declared.Tally.{Tally}
 use Rattle.replayed.specs.Replay.{End, A, B, Ends, port_of, Step, step_as, step, run, count, is_from, is_frame, sent_by, framed, of_other_form, refused_with, reason_at, has_reason, became, both_settled, first_settled}
 use Rattle.numerals.specs.Numerals.{capped}

@@ -7,7 +7,7 @@ use borrow.Author.Tests.{le-ltb}
 use Rattle.capture.specs.Capture.{lines}
 use Rattle.capture.specs.Feeding.{in_turn, joined, held_fed}
 use Rattle.capture.specs.FeedingLaws.{fed_all, finished_all}
-use Rattle.tally.specs.StepLaws.{with_clipped}
+use Rattle.counting.specs.StepLaws.{with_clipped}
 use Rattle.replayed.specs.Replay.{Ends}
 use Rattle.replayed.specs.Report.{report_on}
 use Rattle.counting.specs.Steps.{with_line}

@@ -14,8 +14,8 @@ use Rattle.tlv.specs.Refusals.{refusal_number}
 use Rattle.feature.specs.declared.Reason.{Reason}
 use Rattle.feature.specs.declared.Reason.TheVariants.{NoPeerYet, NotAdvertised, Absent, Duplicate, Bad, Waiting, Disabled, Agreed, NotCompatible, ControlTwice}
 use Rattle.feature.specs.Reasons.{reason_number}
-use Rattle.port.specs.declared.Answer.{Answer}
-use Rattle.port.specs.declared.Answer.TheVariants.{Done, Refused}
+use Rattle.std.specs.Prelude.{Ok, Err}
+use Rattle.port.specs.Types.{Answer}
 use Rattle.port.specs.Replies.{event_reply, bit}
 use Rattle.numerals.specs.Numerals.{capped, more}
 use Rattle.replayed.specs.Report.{reasons}
@@ -49,8 +49,8 @@ refusal_places NoPort f = refl
 
 answer_places : (a : Answer) (f : ℕ → ℕ) → refusal_counted (map f refusals) (event_reply a).number ≡ map (λ k. if (event_reply a).number is k then more (f k) else f k) refusals
 unfolding refusal_counted counted
-answer_places (Done wish) f = refl
-answer_places (Refused why place) f = refusal_places why f
+answer_places (Ok wish) f = refl
+answer_places (Err r) f = refusal_places r.why f
 
 pub refusal_row : (a : Answer) (g : ℕ → ℕ)
     → refusal_counted (map (λ k. capped (g k)) refusals) (event_reply a).number ≡ map (λ k. capped (g k + bit ((event_reply a).number is k))) refusals

@@ -12,7 +12,7 @@ use Rattle.feature.specs.declared.Release.{Release}
 use Rattle.machine.specs.State.{next, fresh, stopped, present}
 use Rattle.port.specs.declared.Control.{Control}
 use Rattle.port.specs.declared.Port.{Port}
-use Rattle.port.specs.declared.Released.{Released}
+use Rattle.parameters.specs.declared.Each.{Each}
 use Rattle.port.specs.Parts.{feature_of, three, with_control, with_features, presents, with_released, release, some, running}
 use Rattle.sending.specs.Sending.{unacknowledged, raises_seq_no, sent, with_seq, fresh_control, fresh_parts, fresh_port}
 use Rattle.sending.specs.SendingLaws.{counted}
@@ -50,7 +50,7 @@ module _ (p : Port) {g w a : Bool} (eg : g ≡ unacknowledged p.groups) (ew : w 
   unfolding sent
   sent_stays t = rw (← up, not-true u t) refl
 
-  pub sent_raised : not u ≡ false → {c : Control} → c ≡ counted u p.control → {r : Released} → r ≡ presents p.groups p.flow p.applications
+  pub sent_raised : not u ≡ false → {c : Control} → c ≡ counted u p.control → {r : Each Release} → r ≡ presents p.groups p.flow p.applications
       → record { revision = p.revision; admin = p.admin; receive = p.receive; transmit = p.transmit; several = p.several; control = c; groups = p.groups; flow = p.flow; applications = p.applications; released = r }
       ≡ sent p
   unfolding sent
@@ -58,7 +58,7 @@ module _ (p : Port) {g w a : Bool} (eg : g ≡ unacknowledged p.groups) (ew : w 
 
 module _ (p : Port) {g w a : State} {q : Port} where
   pub fresh_parts_lem : {c : Control} → g ≡ fresh p.groups.max p.groups.setting → w ≡ fresh p.flow.max p.flow.setting
-      → a ≡ fresh p.applications.max p.applications.setting → q ≡ with_features p (three g w a) → c ≡ fresh_control p.control.max → {r : Released} → r ≡ presents q.groups q.flow q.applications
+      → a ≡ fresh p.applications.max p.applications.setting → q ≡ with_features p (three g w a) → c ≡ fresh_control p.control.max → {r : Each Release} → r ≡ presents q.groups q.flow q.applications
       → record { revision = q.revision; admin = q.admin; receive = q.receive; transmit = q.transmit; several = q.several; control = c; groups = q.groups; flow = q.flow; applications = q.applications; released = r }
       ≡ fresh_parts p
   fresh_parts_lem eg ew ea eq ec er = simp (er, eq, eg, ew, ea, ec)

@@ -8,8 +8,9 @@ ghost use Rattle.octets.specs.Words.{◌is◌};
 ghost use Rattle.sending.specs.SendingLaws.{counted};
 ghost use Rattle.sending.specs.Sending.{unacknowledged, sent, fresh_control, fresh_parts, fresh_port};
 
-use feature::State;
-use port::{Control, Port, Released};
+use feature::{Release, State};
+use parameters::Each;
+use port::{Control, Port};
 
 // Whether the feature waits for an acknowledgement: one that is withdrawn does, too (02, E5).
 #[tactic(auto, unfolding(crate::specs::Sending::unacknowledged))]
@@ -40,10 +41,10 @@ pub fn count(k: Control, up: bool) -> Control
 }
 
 // What a release would write of three features at present (02, E5).
-pub fn presents(g: State, w: State, a: State) -> Released
+pub fn presents(g: State, w: State, a: State) -> Each<Release>
     ensures { result ≡ presents g w a }
 {
-    Released {
+    Each {
         groups: machine::present(g),
         flow: machine::present(w),
         applications: machine::present(a),

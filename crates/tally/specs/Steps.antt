@@ -5,26 +5,29 @@ use Rattle.octets.specs.Words.{◌below◌}
 use Rattle.octets.specs.Texts.{text}
 use Rattle.port.specs.declared.Port.{Port}
 use Rattle.port.specs.Settled.{settled}
-use Rattle.capture.specs.declared.Held.{Held}
-use Rattle.capture.specs.Steps.{held_of, pending}
-use Rattle.capture.specs.Feeding.{fed_from, held_fed, ended}
+use Rattle.capture.specs.declared.Feed.{Feed}
+use Rattle.capture.specs.Steps.{Front, held_of}
+use Rattle.capture.specs.Feeding as feeding
+use Rattle.capture.specs.Feeding.{ended, feed_of}
 use Rattle.numerals.specs.Numerals.{decimal}
-use Rattle.counters.specs.declared.Changes.{Changes}
+use Rattle.counters.specs.Counters.{Changes}
 use Rattle.counters.specs.Counters.{unchanged}
 use Rattle.counting.specs.declared.Tally.{Tally}
 use Rattle.counting.specs.Steps.{with_line}
-use Rattle.tally.specs.declared.Replay.{Replay}
 
 -- ---- octets as they come
 
-abbrev pub replay_of : Tally → Held → Replay
-replay_of t h = record { tally = t; held = h }
+abbrev pub Replay : Type 0
+Replay = Feed Tally
+
+abbrev pub replay_of : Tally → Front → Replay
+replay_of t h = feed_of t h
 
 abbrev pub fed : Replay → List ℕ → Replay
-fed r s = held_fed replay_of (fed_from with_line r.tally (pending r.held) s)
+fed r s = feeding.fed with_line r s
 
 abbrev pub finished : Replay → Tally
-finished r = ended with_line r.tally r.held
+finished r = ended with_line r.value r.held
 
 -- ---- the start
 
@@ -44,7 +47,7 @@ begun a b =
     }
 
 unfoldable pub started : Port → Port → Replay
-started a b = record { tally = begun a b; held = held_of [] }
+started a b = replay_of (begun a b) (held_of [])
 
 -- ---- the text
 

@@ -13,7 +13,7 @@ use Rattle.octets.specs.Laws.{sets_append}
 use Rattle.octets.specs.Texts.{text}
 use Rattle.numerals.specs.Numerals.{decimal}
 use Rattle.numerals.specs.NumeralLaws.{Laid, laid_both}
-use Rattle.counters.specs.declared.Changes.{Changes}
+use Rattle.counters.specs.Counters.{Changes}
 use Rattle.counting.specs.declared.Tally.{Tally}
 use Rattle.tally.specs.Steps.{row, changes_text, settled_text, tally_text, report_length, report_output, Reports}
 

@@ -1,5 +1,5 @@
 // The report's octets.
-ghost use Rattle.std.specs.Prelude.{◌≡◌, [], ◌∷◌, ◌+◌, ◌*◌, ◌≤◌, length};
+ghost use Rattle.std.specs.Prelude.{◌≡◌, ◌+◌, ◌*◌, ◌≤◌, length};
 ghost use Rattle.numerals.specs.NumeralLaws.{Laid};
 ghost use Rattle.tally.specs.Steps.{row, changes_text, settled_text, Reports};
 ghost use Rattle.tally.specs.TextLaws.{behind};
@@ -22,48 +22,26 @@ fn behind(others: bool) -> u8
 }
 
 // Puts a line of numbers.
-fn put_row(out: &mut [u8], at: usize, numbers: &[u64]) -> usize
-    requires { at + 21 * length numbers.now ≤ length out.old }
-    ensures { Laid out.old at (row numbers.now) (21 * length numbers.now) result out.new }
+fn put_row<const N: usize>(out: &mut [u8], at: usize, numbers: &[u64; N]) -> usize
+    requires { at + 21 * N ≤ length out.old }
+    ensures { Laid out.old at (row numbers.now) (21 * N) result out.new }
 {
     let mut place = at;
-    let mut i: usize = 0;
-    while i < numbers.len() {
-        let end = behind(i + 1 < numbers.len());
-        place = numerals::put_number(out, place, numbers[i], end);
-        i += 1;
+    for (i, n) in numbers.iter().enumerate() {
+        let end = behind(i + 1 < N);
+        place = numerals::put_number(out, place, *n, end);
     }
     place
 }
 
-// Puts a line of eight numbers.
-fn put_eight(out: &mut [u8], at: usize, numbers: [u64; 8]) -> usize
-    requires { at + 168 ≤ length out.old }
-    ensures { Laid out.old at (row numbers) 168 result out.new }
-{
-    put_row(out, at, &numbers)
-}
-
-// Puts a line of three numbers.
-fn put_three(out: &mut [u8], at: usize, a: u64, b: u64, c: u64) -> usize
-    requires { at + 63 ≤ length out.old }
-    ensures { Laid out.old at (row (a ∷ b ∷ c ∷ [])) 63 result out.new }
-{
-    let numbers = [a, b, c];
-    put_row(out, at, &numbers)
-}
-
 // Puts the lines of an end's three features.
-fn put_changes(out: &mut [u8], at: usize, c: Changes) -> usize
+fn put_changes(out: &mut [u8], at: usize, c: &Changes) -> usize
     requires { at + 504 ≤ length out.old }
-    ensures { Laid out.old at (changes_text c) 504 result out.new }
+    ensures { Laid out.old at (changes_text c.now) 504 result out.new }
 {
-    let groups = c.groups;
-    let flow = c.flow;
-    let applications = c.applications;
-    let a = put_eight(out, at, groups);
-    let b = put_eight(out, a, flow);
-    put_eight(out, b, applications)
+    let a = put_row(out, at, &c.groups);
+    let b = put_row(out, a, &c.flow);
+    put_row(out, b, &c.applications)
 }
 
 // Puts the last line.
@@ -87,10 +65,9 @@ pub fn report(t: Tally, out: &mut [u8]) -> usize
     if out.len() < ROOM {
         return 0;
     }
-    let refusals = t.refusals;
-    let a = put_three(out, 0, t.from_a, t.from_b, t.others);
-    let b = put_eight(out, a, refusals);
-    let c = put_changes(out, b, t.of_a);
-    let d = put_changes(out, c, t.of_b);
+    let a = put_row(out, 0, &[t.from_a, t.from_b, t.others]);
+    let b = put_row(out, a, &t.refusals);
+    let c = put_changes(out, b, &t.of_a);
+    let d = put_changes(out, c, &t.of_b);
     put_settled(out, d, t.settled, t.frames)
 }

@@ -157,7 +157,7 @@ not_carried o e k =
     let z : ◌≡◌ {A = ℕ} 4 8 = four ∙ eight in
     omega arith
   where
-    accepted_same : {a b : Contents} → Ok a ≡ Ok b → a ≡ b
+    accepted_same : {a b : Contents} → ◌≡◌ {A = contents.Reading} (Ok a) (Ok b) → a ≡ b
     accepted_same e = cc
 
 -- ---- what the left end has become

@@ -7,8 +7,9 @@ use Rattle.std.specs.Prelude.{if◌then◌else◌}
 use Rattle.octets.specs.Words.{◌is◌}
 use Rattle.tlv.specs.declared.Refusal.{Refusal}
 use Rattle.tlv.specs.declared.Refusal.TheVariants.{NotRunning, SeveralNeighbours, InvalidSetting, UnknownFeature}
-use Rattle.contents.specs.declared.Reading.{Reading}
-use Rattle.contents.specs.declared.Reading.TheVariants as read
+use Rattle.std.specs.Prelude.{None, Ok, Err}
+use Rattle.tlv.specs.Refusals.{rejection}
+use Rattle.contents.specs.Contents.{Reading}
 use Rattle.tlv.specs.Revisions.{has_applications}
 use Rattle.reading.specs.Revisions.{read_for}
 use Rattle.parameters.specs.declared.Feature.{Feature}
@@ -16,12 +17,9 @@ use Rattle.parameters.specs.declared.Feature.TheVariants.{Groups, Flow, Applicat
 use Rattle.parameters.specs.Parameters.{valid_local}
 use Rattle.feature.specs.declared.Switches.{Switches}
 use Rattle.machine.specs.State.{setting_of, same_setting}
-use Rattle.port.specs.declared.Answer.{Answer}
-use Rattle.port.specs.declared.Answer.TheVariants.{Done, Refused}
+use Rattle.port.specs.Types.{Answer, Raised}
 use Rattle.port.specs.declared.Flag.{Flag}
 use Rattle.port.specs.declared.Port.{Port}
-use Rattle.port.specs.declared.Raised.{Raised}
-use Rattle.port.specs.declared.Raised.TheVariants as raised
 use Rattle.port.specs.Parts.{feature_of, flag_of, running}
 use Rattle.port.specs.Writing.{sub_tlvs, frame, to_write, asks}
 use Rattle.events.specs.PortEvents.{event, unchanged, refused}
@@ -37,10 +35,10 @@ use Rattle.verdicts.specs.Verdicts.{asked, Answers}
 use Rattle.verdicts.proofs.Exact.{is_same}
 
 is_done : Answer → Bool
-is_done (Done send) = true
-is_done (Refused why place) = false
+is_done (Ok send) = true
+is_done (Err r) = false
 
-not_refused : {b : Bool} {why : Refusal} {place : ℕ} → Done b ≡ Refused why place → ⊥
+not_refused : {b : Bool} {why : Refusal} {place : ℕ} → ◌≡◌ {A = Answer} (Ok b) (Err (rejection why place)) → ⊥
 unfolding is_done
 not_refused e = false≢true (sym (ap is_done e))
 
@@ -73,8 +71,8 @@ module _ (p : Port) where
       by : (a b : Bool) (x : Reading) → Answers p (if not a then rejected NotRunning 0 p else if b then rejected SeveralNeighbours 0 p else given o x p)
       by false b x = rejected_tells NotRunning 0
       by true true x = rejected_tells SeveralNeighbours 0
-      by true false (read.Refused why place) = rejected_tells why place
-      by true false (read.Accepted c) = done_tells _ _
+      by true false (Err r) = rejected_tells r.why r.place
+      by true false (Ok c) = done_tells _ _
 
   gone_tells : Answers p (peer_gone p)
   unfolding peer_gone
@@ -97,10 +95,10 @@ module _ (p : Port) where
     unfolding changed_feature set_to
     feature_tells f = by (valid_local f o) (same_setting (feature_of p f).setting (setting_of f w o))
       where
-        by : (a b : Bool) → Answers p (if a then if b then unchanged p else event raised.Nothing p (setting_changed f (setting_of f w o) p) else refused InvalidSetting p)
+        by : (a b : Bool) → Answers p (if a then if b then unchanged p else event None p (setting_changed f (setting_of f w o) p) else refused InvalidSetting p)
         by false b = refused_tells InvalidSetting
         by true true = unchanged_tells
-        by true false = done_tells raised.Nothing (setting_changed f (setting_of f w o) p)
+        by true false = done_tells None (setting_changed f (setting_of f w o) p)
 
     setting_tells : (number : ℕ) → Answers p (changed_setting number w o p)
     unfolding changed_setting changed_applications

@@ -8,7 +8,7 @@ use mathlib.Core.List.{List, [], ◌∷◌, ◌++◌, append-nil}
 use lib.ListN.{length, length-append}
 use lib.Seq.{append_snoc, take-append_seam}
 use borrow.Author.Tests.{lt-ltb, le-ltb, le-leb, lt-leb, ltb-true, ltb-false, leb-true, eq-eqb, eqb-true, eqb-false, ne_eqb}
-use Rattle.std.specs.Prelude.{if◌then◌else◌}
+use Rattle.std.specs.Prelude.{if◌then◌else◌, Some, Ok}
 use Rattle.octets.specs.Words.{◌below◌, ◌atmost◌, ◌is◌}
 use Rattle.octets.specs.Octets.{at, same}
 use Rattle.octets.specs.Laws.{and_left, and_right}
@@ -18,18 +18,18 @@ use Rattle.port.specs.declared.Flag.{Flag}
 use Rattle.port.specs.declared.Flag.TheVariants as flags
 use Rattle.recorder.specs.declared.Change.TheVariants as change
 use Rattle.grammar.specs.declared.Form.{Form}
-use Rattle.words.specs.declared.Number.TheVariants.{Is}
 use Rattle.lines.specs.declared.Kind.{Kind}
-use Rattle.words.specs.Text.{is_digit, nibble, hex_digits, is_octets, pair_at, listed, octets_of, ended, words_from, words, first, others, decimal_digits, decimal_from, is_number, number, filled}
+use Rattle.words.specs.Text.{is_digit, nibble, hex_digits, is_octets, pair_at, listed, octets_of, ended, words_from, words, first, others, decimal_digits, decimal_from, is_number, number, held}
+use Rattle.words.specs.TextLaws.{pending_held}
 use Rattle.words.specs.Text as spelling
 use Rattle.grammar.specs.Grammar.{switches, fields, due, may_end}
-use Rattle.fields.specs.Fields.{name_text, said, field_number, onward, values_from, values_of}
+use Rattle.fields.specs.Fields.{name_text, said, field_number, ended as line_ended, onward, values_from, values_of}
 use Rattle.lines.specs.Lines.{line_of, returned, setting_kind, setting_with, plain, alone}
 use Rattle.script.specs.Events.{flag_bit, flag, form_of, numbered, change_of, event_of, keyword, is_frame, event_line}
 use Rattle.script.specs.Events as script
 use Rattle.capture.specs.Capture as capture
 use Rattle.numerals.specs.Numerals.{digits_of, decimal}
-use Rattle.judgement.specs.Entries.{Sent, Given, Changed, flag_of, told_by, entry_by, entry_as, entry_of}
+use Rattle.judgement.specs.Entries.{Sent, Given, Changed, told_by, change_on, entry_by, entry_as, entry_of}
 use Rattle.verdicts.specs.Transcripts.{hex_digit, hex_of, sent_line, given_line, spaced, bit_word, flag_word, parameter_words, setting_words, OctetsWithin}
 
 -- ---- hex digits are read back
@@ -266,7 +266,7 @@ all_numerals = refl
 record Numeral (n : ℕ) : Type 0 where
   word : is_word (decimal n) ≡ true
   short : length (decimal n) ≤ 3
-  read : number 255 (decimal n) ≡ Is n
+  read : number 255 (decimal n) ≡ Some n
   form : form_of (decimal n) ≡ Form.Plain
 
 numeral : (n : ℕ) → n ≤ 255 → Numeral n
@@ -285,7 +285,7 @@ numeral n h = by (one_below 256 n is_numeral all_numerals (omega arith))
         record {
           word = and_left (is_word d) (length d atmost 3) a;
           short = leb-true (length d) 3 (and_right (is_word d) (length d atmost 3) a);
-          read = rw (and_left (is_number 255 d) (spelling.decimal d is n) c) (ap Is (eqb-true (spelling.decimal d) n (and_right (is_number 255 d) (spelling.decimal d is n) c)));
+          read = rw (and_left (is_number 255 d) (spelling.decimal d is n) c) (ap Some (eqb-true (spelling.decimal d) n (and_right (is_number 255 d) (spelling.decimal d is n) c)));
           form = plain_is (form_of d) (and_right (is_number 255 d && spelling.decimal d is n) (is_plain (form_of d)) b);
         }
 
@@ -302,11 +302,11 @@ bit_long true = refl
 bit_long false = refl
 
 pub gone_line : entry_of (text "gone") ≡ Changed change.PeerGone []
-unfolding entry_as capture.form_of same event_line returned is_frame words_from ended first others keyword event_of alone line_of filled told_by entry_by
+unfolding entry_as capture.form_of same event_line returned is_frame words_from ended first others keyword event_of alone line_of held told_by entry_by change_on
 gone_line = refl
 
 pub flag_line : (x : Flag) (on : Bool) → entry_of (spaced (flag_word x ∷ bit_word on ∷ [])) ≡ Changed (change.Flag x on) []
-unfolding spaced flag_word bit_word entry_as capture.form_of same event_line returned is_frame words_from ended first others keyword script.flag_word event_of flag flag_bit field_number number is_number decimal_digits is_digit decimal_from alone line_of filled flag_of told_by entry_by
+unfolding spaced flag_word bit_word entry_as capture.form_of same event_line returned is_frame words_from ended first others keyword script.flag_word event_of flag flag_bit field_number number is_number decimal_digits is_digit decimal_from alone line_of held told_by entry_by change_on
 flag_line flags.Admin true = refl
 flag_line flags.Admin false = refl
 flag_line flags.Receive true = refl
@@ -341,8 +341,8 @@ abbrev switched : Bool → Bool → Bool → Switches
 switched a e w = record { advertise = a; enable = e; willing = w }
 
 module _ (n : ℕ) (o : List ℕ) where
-  without : (a e w : Bool) → setting_with 3 n (values_of Form.Plain (behind (switched a e w) [])) o ≡ line_of (Kind.Setting n a e w) o
-  unfolding bit_word setting_with setting_kind values_of values_from onward field_number said name_text same due fields switches may_end number is_number decimal_digits is_digit decimal_from
+  without : (a e w : Bool) → setting_with 3 n (values_of Form.Plain (behind (switched a e w) [])) (λ v. o) ≡ Ok (line_of (Kind.Setting n (switched a e w)) o)
+  unfolding bit_word setting_with setting_kind values_of values_from onward line_ended field_number said name_text same due fields switches may_end number is_number decimal_digits is_digit decimal_from
   without true true true = refl
   without true true false = refl
   without true false true = refl
@@ -353,8 +353,8 @@ module _ (n : ℕ) (o : List ℕ) where
   without false false false = refl
 
   having : (h : List ℕ) → is_octets 507 h ≡ true → (a e w : Bool)
-      → setting_with 3 n (values_of Form.Plain (behind (switched a e w) (text "parameters" ∷ h ∷ []))) o ≡ line_of (Kind.Setting n a e w) o
-  unfolding bit_word setting_with setting_kind values_of values_from onward field_number said name_text same due fields switches may_end number is_number decimal_digits is_digit decimal_from
+      → setting_with 3 n (values_of Form.Plain (behind (switched a e w) (text "parameters" ∷ h ∷ []))) (λ v. o) ≡ Ok (line_of (Kind.Setting n (switched a e w)) o)
+  unfolding bit_word setting_with setting_kind values_of values_from onward line_ended field_number said name_text same due fields switches may_end number is_number decimal_digits is_digit decimal_from
   having h q true true true = rw q refl
   having h q true true false = rw q refl
   having h q true false true = rw q refl
@@ -365,12 +365,12 @@ module _ (n : ℕ) (o : List ℕ) where
   having h q false false false = rw q refl
 
 plain_read : (n : ℕ) (w : Switches) (o : List ℕ) → OctetsWithin 507 o
-    → plain n (behind w (parameter_words o)) ≡ line_of (Kind.Setting n w.advertise w.enable w.willing) o
+    → plain n (behind w (parameter_words o)) ≡ Ok (line_of (Kind.Setting n w) o)
 unfolding plain parameter_words first octets_of listed
 plain_read n w [] r = without n [] w.advertise w.enable w.willing
 plain_read n w (x ∷ o) r =
     having n (octets_of (hex_of (x ∷ o))) (hex_of (x ∷ o)) (is_octets_lem 507 (x ∷ o) r.few r.octets) w.advertise w.enable w.willing
-    ∙ ap (line_of (Kind.Setting n w.advertise w.enable w.willing)) (read_back (x ∷ o) (omega (arith, r.few)) r.octets)
+    ∙ ap (λ (y : List ℕ). Ok (line_of (Kind.Setting n w) y)) (read_back (x ∷ o) (omega (arith, r.few)) r.octets)
 
 module _ (n : ℕ) (w : Switches) (h : n ≤ 255) where
   setting_words_lem : (o : List ℕ) → OctetsWithin 507 o → Words (setting_words n w o)
@@ -385,12 +385,12 @@ module _ (n : ℕ) (w : Switches) (h : n ≤ 255) where
   setting_wide (x ∷ o) r =
       omega (arith, (numeral n h).short, bit_long w.advertise, bit_long w.enable, bit_long w.willing, length_hex (x ∷ o), r.few)
 
-  setting_read : (o : List ℕ) → OctetsWithin 507 o → event_line (spaced (setting_words n w o)) ≡ line_of (Kind.Setting n w.advertise w.enable w.willing) o
+  setting_read : (o : List ℕ) → OctetsWithin 507 o → event_line (spaced (setting_words n w o)) ≡ Ok (line_of (Kind.Setting n w) o)
   unfolding setting_words spaced is_frame same keyword first others event_of change_of numbered
   setting_read o r =
       let e : n % 256 ≡ n = omega arith in
       by_words (setting_words n w o) (setting_words_lem o r) (setting_wide o r) refl ∙ rw ((numeral n h).form, (numeral n h).read, e) (plain_read n w o r)
 
   pub setting_line_lem : (o : List ℕ) → OctetsWithin 507 o → entry_of (spaced (setting_words n w o)) ≡ Changed (change.Setting n w) o
-  unfolding setting_words spaced entry_as capture.form_of same line_of filled told_by entry_by
-  setting_line_lem o r = rw (setting_read o r) (ap (Changed (change.Setting n w)) (take-append_seam o _))
+  unfolding setting_words spaced entry_as capture.form_of same line_of held told_by entry_by change_on
+  setting_line_lem o r = rw (setting_read o r) (ap (Changed (change.Setting n w)) (pending_held 513 o))

@@ -80,7 +80,7 @@ tail_is e = ap rest e
     rest [] = []
     rest (x ∷ xs) = xs
 
-first_differing : (xs ys : List ℕ) (n : ℕ) → FirstDifference xs ys n → n ≡ differing xs ys
+pub first_differing : (xs ys : List ℕ) (n : ℕ) → FirstDifference xs ys n → n ≡ differing xs ys
 unfolding differing
 first_differing [] ys n d = omega (arith, d.sent)
 first_differing (x ∷ xs) [] n d = omega (arith, d.due)

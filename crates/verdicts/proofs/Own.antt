@@ -8,7 +8,7 @@ use mathlib.Core.List.{List, [], ◌∷◌, ◌++◌}
 use lib.ListN.{length, drop}
 use lib.Seq.{take-append_seam}
 use lib.Dec.{lit<}
-use Rattle.std.specs.Prelude.{if◌then◌else◌}
+use Rattle.std.specs.Prelude.{if◌then◌else◌, Ok, Err}
 use Rattle.octets.specs.Words.{◌below◌}
 use Rattle.octets.specs.Octets.{at}
 use Rattle.octets.specs.Texts.{text}
@@ -17,7 +17,6 @@ use Rattle.parameters.specs.declared.Feature.{Feature}
 use Rattle.feature.specs.declared.Switches.{Switches}
 use Rattle.port.specs.declared.Port.{Port}
 use Rattle.port.specs.declared.Versions.{Versions}
-use Rattle.port.specs.declared.Written.TheVariants.{Octets, Refused}
 use Rattle.port.specs.Parts.{running}
 use Rattle.port.specs.Replies.{bit}
 use Rattle.port.specs.Writing.{frame}
@@ -76,8 +75,8 @@ module _ (p : Port) (out : List ℕ) (h : Ours p) where
     where
       by : (a : Bool) → running p ≡ a → (b : Bool)
           → Leads p
-          (written_lines (if not a then Refused NotRunning else if b then Refused ShortOutput else Octets (length (frame p))) (if not a then out else if b then out else frame p ++ drop (length (frame p)) out))
-          p (has_written (if not a then Refused NotRunning else if b then Refused ShortOutput else Octets (length (frame p))))
+          (written_lines (if not a then Err NotRunning else if b then Err ShortOutput else Ok (length (frame p))) (if not a then out else if b then out else frame p ++ drop (length (frame p)) out))
+          p (has_written (if not a then Err NotRunning else if b then Err ShortOutput else Ok (length (frame p))))
       by false e b = no_line p
       by true e true = no_line p
       by true e false = sends p _ (frame_spelt p h.stands.sound h.own) e (take-append_seam (frame p) _)

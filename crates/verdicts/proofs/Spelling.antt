@@ -7,14 +7,13 @@ use mathlib.Core.List.{List, [], ◌∷◌, ◌++◌}
 use lib.ListN.{length, take, drop, replicate, length-take}
 use lib.Seq.{get_or-drop}
 use lib.Dec.{lit<}
-use Rattle.std.specs.Prelude.{if◌then◌else◌}
+use Rattle.std.specs.Prelude.{if◌then◌else◌, Option, Some, None, Result, Ok, Err}
 use Rattle.octets.specs.Words.{◌below◌, ◌is◌}
 use Rattle.octets.specs.Octets.{at, head, headed}
 use Rattle.tlv.specs.declared.Refusal.{Refusal}
 use Rattle.tlv.specs.declared.Refusal.TheVariants.{NotRunning, SeveralNeighbours, InvalidSetting, UnknownFeature}
 use Rattle.contents.specs.declared.Contents.{Contents}
-use Rattle.contents.specs.declared.Reading.{Reading}
-use Rattle.contents.specs.declared.Reading.TheVariants.{Refused, Accepted}
+use Rattle.contents.specs.Contents.{Reading}
 use Rattle.tlv.specs.Layout.{frame_head}
 use Rattle.tlv.specs.Revisions.{has_applications}
 use Rattle.reading.specs.Revisions.{read_for}
@@ -33,8 +32,7 @@ use Rattle.port.specs.declared.Control.{Control}
 use Rattle.port.specs.declared.Flag.{Flag}
 use Rattle.port.specs.declared.Flag.TheVariants.{Admin, Receive, Transmit, Several}
 use Rattle.port.specs.declared.Port.{Port}
-use Rattle.port.specs.declared.Raised.{Raised}
-use Rattle.port.specs.declared.Raised.TheVariants as raised
+use Rattle.port.specs.Types.{Raised}
 use Rattle.port.specs.declared.Versions.{Versions}
 use Rattle.port.specs.Parts.{switched_off, feature_of, released_of, with_control, with_features, release, flag_of, with_flag, running}
 use Rattle.port.specs.Sound.{SoundParameters, SoundControl, SoundRelease, SoundPort}
@@ -58,23 +56,19 @@ use Rattle.recorder.specs.Recorder.{happens}
 use Rattle.calls.proofs.Reachable.{versions_small}
 use Rattle.grammar.specs.declared.Form.{Form}
 use Rattle.fields.specs.declared.Values.{Values}
-use Rattle.words.specs.declared.Number.{Number}
-use Rattle.words.specs.declared.Number.TheVariants.{Is, Not}
-use Rattle.lines.specs.declared.Flag as said
+use Rattle.fields.specs.declared.Undue.{Undue}
 use Rattle.script.specs.declared.Keyword.{Keyword}
 use Rattle.lines.specs.declared.Kind.{Kind}
-use Rattle.lines.specs.declared.Line as lines
-use Rattle.words.specs.Text.{pair_at, listed, octets_of, words, first, others, number, filled}
+use Rattle.words.specs.Text.{pair_at, listed, octets_of, words, first, others, number, pending}
+use Rattle.words.specs.TextLaws.{pending_held}
 use Rattle.grammar.specs.declared.Field.TheVariants.{Bit}
 use Rattle.fields.specs.Fields.{field_number, entry_octet, groups_octet, parameter_count, parameter_at, parameters_of, values_of}
-use Rattle.lines.specs.Lines.{line_of, bare, returned, setting_kind, setting_with, feature, plain, alone}
+use Rattle.lines.specs.Lines.{Parsed, line_of, bare, returned, setting_kind, setting_with, feature, plain, alone}
 use Rattle.script.specs.Events.{flag_bit, flag, write_room, write, form_of, numbered, change_of, event_of, keyword, is_frame, event_line}
 use Rattle.capture.specs.declared.Form as forms
 use Rattle.capture.specs.declared.Form.TheVariants.{FromA, FromB, Other}
 use Rattle.capture.specs.Capture as capture
-use Rattle.judgement.specs.declared.Told.{Told}
-use Rattle.judgement.specs.declared.Told.TheVariants as told
-use Rattle.judgement.specs.Entries.{Entry, Sent, Given, Changed, Passed, octets_in, entry_by, told_by, entry_as, entry_of, port_after}
+use Rattle.judgement.specs.Entries.{Entry, Sent, Given, Changed, Passed, octets_in, entry_by, told_by, change_on, entry_as, entry_of, port_after}
 use Rattle.verdicts.specs.Transcripts.{OctetsWithin, SettingsInRange}
 
 -- a port's own settings, which alone it writes, are octets, the present ones and those last released
@@ -170,36 +164,38 @@ unfolding parameters_of
 parameters_octets f v = listed_octets (parameter_count f v.place) 0 (parameter_at f v.numbers) (parameter_small f v.numbers)
 
 -- the octets of a line
-abbrev Held : lines.Line → Type 0
-Held l = Octets l.octets
+abbrev Held : Parsed → Type 0
+Held (Ok l) = Octets (pending l.octets)
+Held (Err why) = Unit {0}
 
-line_held : (k : Kind) (o : List ℕ) → Octets o → Held (line_of k o)
-unfolding line_of filled
-line_held k o h = append_octets o (replicate (513 - length o) 0) h (zeros_octets (513 - length o))
+line_held : (k : Kind) (o : List ℕ) → Octets o → Held (Ok (line_of k o))
+unfolding line_of
+line_held k o h = rw (pending_held 513 o) h
 
-bare_held : (k : Kind) → Held (bare k)
+bare_held : (k : Kind) → Held (Ok (bare k))
 bare_held k = line_held k [] none_octets
 
-either_held : (b : Bool) (x y : lines.Line) → Held x → Held y → Held (if b then x else y)
+either_held : (b : Bool) (x y : Parsed) → Held x → Held y → Held (if b then x else y)
 either_held true x y h k = h
 either_held false x y h k = k
 
 alone_held : (k : Kind) (word : ℕ) (ws : List (List ℕ)) → Held (alone k word ws)
 unfolding alone
-alone_held k word ws = either_held (length ws is 0) (bare k) _ (bare_held k) (bare_held _)
+alone_held k word ws = either_held (length ws is 0) (Ok (bare k)) _ (bare_held k) tt
 
-setting_held : (word n : ℕ) (v : Values) (o : List ℕ) → Octets o → Held (setting_with word n v o)
+setting_held : (word n : ℕ) (v : Result Values Undue) (p : Values → List ℕ) → ((x : Values) → Octets (p x)) → Held (setting_with word n v p)
 unfolding setting_with
-setting_held word n v o h = either_held v.good (line_of (setting_kind n v.numbers) o) _ (line_held (setting_kind n v.numbers) o h) (bare_held _)
+setting_held word n (Ok v) p h = line_held (setting_kind n v.numbers) (p v) (h v)
+setting_held word n (Err u) p h = tt
 
 feature_held : (f : Form) (word n : ℕ) (ws : List (List ℕ)) → Held (feature f word n ws)
 unfolding feature
-feature_held f word n ws = setting_held word n (values_of f ws) (parameters_of f (values_of f ws)) (parameters_octets f (values_of f ws))
+feature_held f word n ws = setting_held word n (values_of f ws) (parameters_of f) (parameters_octets f)
 
-numbered_held : (x : Number) (ws : List (List ℕ)) → Held (numbered x ws)
+numbered_held : (x : Option ℕ) (ws : List (List ℕ)) → Held (numbered x ws)
 unfolding numbered plain
-numbered_held Not ws = bare_held _
-numbered_held (Is n) ws = setting_held 3 (n % 256) (values_of Form.Plain ws) (octets_of (first (drop 7 ws))) (octets_of_lem (first (drop 7 ws)))
+numbered_held None ws = tt
+numbered_held (Some n) ws = setting_held 3 (n % 256) (values_of Form.Plain ws) (λ v. octets_of (first (drop 7 ws))) (λ v. octets_of_lem (first (drop 7 ws)))
 
 change_held : (f : Form) (ws : List (List ℕ)) → Held (change_of f ws)
 unfolding change_of
@@ -208,15 +204,15 @@ change_held Form.Flow ws = feature_held Form.Flow 3 3 (others ws)
 change_held Form.Applications ws = feature_held Form.Applications 3 4 (others ws)
 change_held Form.Plain ws = numbered_held (number 255 (first ws)) (others ws)
 
-flag_held : (x : said.Flag) (b : Number) (ws : List (List ℕ)) → Held (flag_bit x b ws)
+flag_held : (x : Flag) (b : Option ℕ) (ws : List (List ℕ)) → Held (flag_bit x b ws)
 unfolding flag_bit
-flag_held x Not ws = bare_held _
-flag_held x (Is n) ws = alone_held _ 3 ws
+flag_held x None ws = tt
+flag_held x (Some n) ws = alone_held _ 3 ws
 
-write_held : (x : Number) (ws : List (List ℕ)) → Held (write_room x ws)
+write_held : (x : Option ℕ) (ws : List (List ℕ)) → Held (write_room x ws)
 unfolding write_room
-write_held Not ws = bare_held _
-write_held (Is n) ws = alone_held _ 3 ws
+write_held None ws = tt
+write_held (Some n) ws = alone_held _ 3 ws
 
 event_held : (k : Keyword) (ws : List (List ℕ)) → Held (event_of k ws)
 unfolding event_of flag write
@@ -226,20 +222,25 @@ event_held Keyword.Show ws = alone_held _ 2 ws
 event_held Keyword.Set ws = change_held (form_of (first ws)) ws
 event_held Keyword.Write ws = write_held (number 1000 (first ws)) (others ws)
 event_held (Keyword.Flag x) ws = flag_held x (field_number Bit (first ws)) (others ws)
-event_held Keyword.Frame ws = bare_held _
-event_held Keyword.Other ws = bare_held _
+event_held Keyword.Frame ws = tt
+event_held Keyword.Other ws = tt
 
 line_octets : (l : List ℕ) → Held (event_line l)
 unfolding event_line
 line_octets l =
-    either_held (1100 below length l) _ _ (bare_held _)
-    (either_held (returned l) _ _ (bare_held _)
+    either_held (1100 below length l) _ _ tt
+    (either_held (returned l) _ _ tt
     (either_held (is_frame l) _ _ (line_held _ (octets_of (drop 2 l)) (octets_of_lem (drop 2 l))) (event_held (keyword (first (words l))) (others (words l)))))
 
-told_octets : (x : Told) (o : List ℕ) → Octets o → Octets (octets_in (entry_by x o))
+told_octets : (x : Option Change) (o : List ℕ) → Octets o → Octets (octets_in (entry_by x o))
 unfolding entry_by octets_in
-told_octets (told.Change x) o h = h
-told_octets told.Nothing o h = none_octets
+told_octets (Some x) o h = h
+told_octets None o h = none_octets
+
+said_octets : (x : Parsed) → Held x → Octets (octets_in (change_on x))
+unfolding change_on octets_in
+said_octets (Ok l) h = told_octets (told_by l.kind) (pending l.octets) h
+said_octets (Err why) h = none_octets
 
 -- what a line carries, a frame or parameters, are octets
 pub entry_octets : (l : List ℕ) → Octets (octets_in (entry_of l))
@@ -249,7 +250,7 @@ entry_octets l = by (capture.form_of l)
     by : (f : forms.Form) → Octets (octets_in (entry_as f l))
     by FromA = octets_of_lem (drop 2 l)
     by FromB = octets_of_lem (drop 2 l)
-    by Other = told_octets (told_by (event_line l).kind) (take (event_line l).n (event_line l).octets) (take_octets (event_line l).n (event_line l).octets (line_octets l))
+    by Other = said_octets (event_line l) (line_octets l)
 
 -- ---- what a port holds of its end's settings, the present ones and those last released
 
@@ -364,8 +365,8 @@ module _ (S : Setting → Type 0) where
       by : (a b : Bool) (x : Reading) → Holds S (if not a then rejected NotRunning 0 p else if b then rejected SeveralNeighbours 0 p else given o x p).port
       by false b x = rejected_holds NotRunning 0 p h
       by true true x = rejected_holds SeveralNeighbours 0 p h
-      by true false (Refused why place) = rejected_holds why place p h
-      by true false (Accepted c) = completed_holds p (steps1to4 o c p) (steps_hold o c p h)
+      by true false (Err r) = rejected_holds r.why r.place p h
+      by true false (Ok c) = completed_holds p (steps1to4 o c p) (steps_hold o c p h)
 
   -- flags and peer gone
 
@@ -419,7 +420,7 @@ module _ (S : Setting → Type 0) where
     unfolding changed_feature set_to
     changed_holds f = by (valid_local f o) (same_setting (feature_of p f).setting (setting_of f w o))
       where
-        by : (a b : Bool) → Holds S (if a then if b then unchanged p else event raised.Nothing p (setting_changed f (setting_of f w o) p) else refused InvalidSetting p).port
+        by : (a b : Bool) → Holds S (if a then if b then unchanged p else event None p (setting_changed f (setting_of f w o) p) else refused InvalidSetting p).port
         by false b = h
         by true true = h
         by true false = set_holds f (setting_of f w o) p (k f) h

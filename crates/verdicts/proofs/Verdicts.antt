@@ -6,7 +6,11 @@ use lib.ListN.{length, take, drop}
 use lib.Seq.{take-append_seam}
 use borrow.Author.Tests.{le-ltb}
 use Rattle.port.specs.declared.Port.{Port}
-use Rattle.words.specs.Text.{filled}
+use Rattle.port.specs.Writing.{to_write}
+use Rattle.std.specs.Prelude.{Some}
+use Rattle.words.specs.declared.Held.{Held}
+use Rattle.words.specs.Text.{held, pending}
+use Rattle.words.specs.TextLaws.{pending_held}
 use Rattle.capture.specs.Capture.{lines}
 use Rattle.capture.specs.Feeding.{in_turn, joined, held_fed}
 use Rattle.capture.specs.FeedingLaws.{fed_all, finished_all}
@@ -19,11 +23,11 @@ use Rattle.ruling.specs.Ruling.{Verdict, verdict_text}
 use Rattle.conformance.specs.Conformance.{verdict, port_behind, other, course_from}
 use Rattle.judgement.specs.Steps.{rejected_with, with_line, unjudged}
 use Rattle.conformance.specs.Steps.{judging_of, fed, finished, started, verdict_of}
-use Rattle.judgement.proofs.StepLaws.{with_clipped}
+use Rattle.judgement.specs.Clips.{with_clipped}
 use Rattle.conformance.specs.Text.{said_output}
-use Rattle.verdicts.specs.Verdicts.{Due, AllDue, FirstOther, capped_verdict, judged_on, Judges}
+use Rattle.verdicts.specs.Verdicts.{Due, AllDue, FirstOther, capped_verdict, judged_on, Keeps, Judges}
 use Rattle.verdicts.proofs.Walk.{state_of, walked, walk, walked_port, walked_course, walked_verdict}
-use Rattle.verdicts.proofs.Exact.{first_due, later, not_due_lem, exactly}
+use Rattle.verdicts.proofs.Exact.{first_due, first_differing, later, not_due_lem, exactly}
 use Rattle.verdicts.proofs.Answers.{tells}
 use Rattle.verdicts.proofs.Own.{own_made}
 
@@ -49,17 +53,21 @@ kept_here : (l : List ℕ) (ls : List (List ℕ)) (p : Port) (c : Course) (o : L
 unfolding walked other octets_in
 kept_here l ls p c o s h = rw (s, not_due_lem p o h) refl
 
-read_back : (t : Judged) (q : ℕ) (o : List ℕ) → take (rejected_with t q o).n (rejected_with t q o).frame ≡ o
-unfolding rejected_with filled
-read_back t q o = take-append_seam o _
+read_back : (t : Judged) (q : ℕ) (o : List ℕ) → Keeps (rejected_with t q o) q o
+unfolding rejected_with
+read_back t q o = record { frame = held 513 o; rejected = refl; octets = pending_held 513 o }
 
-kept_is : (p : Port) (ls : List (List ℕ)) (n q : ℕ) (f : FirstOther p ls n q) → take (walked p begun ls).n (walked p begun ls).frame ≡ f.octets
+same_keeps : {t u : Judged} {q : ℕ} {o : List ℕ} → t ≡ u → Keeps u q o → Keeps t q o
+same_keeps e k = record { frame = k.frame; rejected = ap (λ (x : Judged). x.rejected) e ∙ k.rejected; octets = k.octets }
+
+kept_is : (p : Port) (ls : List (List ℕ)) (n q : ℕ) (f : FirstOther p ls n q) → Keeps (walked p begun ls) q f.octets
 kept_is p ls n q f =
     let at : Port = port_behind p f.before in
     let c : Course = course_from p begun f.before in
     let e : walked p begun ls ≡ rejected_with (state_of at c) (place_in at f.octets) f.octets =
     ap (walked p begun) f.all ∙ agree_on f.before (f.line ∷ f.after) p begun f.due ∙ kept_here f.line f.after at c f.octets f.sent f.other in
-    ap (λ (t : Judged). take t.n t.frame) e ∙ read_back (state_of at c) (place_in at f.octets) f.octets
+    let g : q ≡ place_in at f.octets = first_differing f.octets (to_write at) q f.placed in
+    same_keeps e (rw g (read_back (state_of at c) (place_in at f.octets) f.octets))
 
 -- ---- the claim
 
@@ -75,7 +83,7 @@ judges =
       port = λ p reads. ap (λ (t : Judged). t.port) (judged_is p reads) ∙ walked_port (lines (joined reads)) p begun;
       course = λ p reads. ap (λ (t : Judged). t.course) (judged_is p reads) ∙ walked_course (lines (joined reads)) p begun;
       answers = tells;
-      kept = λ p reads n q f. ap (λ (t : Judged). take t.n t.frame) (judged_is p reads) ∙ kept_is p (lines (joined reads)) n q f;
+      kept = λ p reads n q f. same_keeps (judged_is p reads) (kept_is p (lines (joined reads)) n q f);
       cuts = λ p reads others e. judged_is p reads ∙ ap (λ (s : List ℕ). walked p begun (lines s)) e ∙ sym (judged_is p others);
       exactly = exactly;
       own = own_made;

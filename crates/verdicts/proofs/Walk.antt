@@ -6,10 +6,10 @@ use native.Mathlib.Nat.{add-zero}
 use mathlib.Core.Path.{◌≡◌, refl, sym, ap, ◌∙◌}
 use mathlib.Core.Bool.{Bool, true, false, not}
 use mathlib.Core.List.{List, [], ◌∷◌}
-use lib.ListN.{replicate}
 use Rattle.std.specs.Prelude.{if◌then◌else◌}
-use Rattle.port.specs.declared.Answer.{Answer}
-use Rattle.port.specs.declared.Answer.TheVariants.{Done, Refused}
+use Rattle.std.specs.Prelude.{None, Ok, Err}
+use Rattle.std.specs.Option.{is_some}
+use Rattle.port.specs.Types.{Answer}
 use Rattle.port.specs.declared.Port.{Port}
 use Rattle.port.specs.Replies.{bit}
 use Rattle.capture.specs.Feeding.{in_turn}
@@ -22,25 +22,25 @@ use Rattle.judgement.specs.Courses.{since_by, taken_by, sent_on, given_on, chang
 use Rattle.ruling.specs.Ruling.{Rejected}
 use Rattle.conformance.specs.Conformance.{port_behind, other, verdict_at, verdict_from, course_from, before_other}
 use Rattle.judgement.specs.Steps.{rejected_with, sent_at, with_entry, with_line}
-use Rattle.conformance.specs.Steps.{verdict_of}
+use Rattle.conformance.specs.Steps.{verdict_by, verdict_of}
 use Rattle.verdicts.specs.Verdicts.{capped_course, capped_verdict}
 
 -- the value behind lines that agree, whose course is c
 abbrev pub state_of : Port → Course → Judged
-state_of p c = record { port = p; course = capped_course c; rejected = false; place = 0; n = 0; frame = replicate 513 0 }
+state_of p c = record { port = p; course = capped_course c; rejected = None }
 
 -- ---- a line
 
 since_capped : (a : Answer) (l n : ℕ) → since_by a (more (capped l)) (capped n) ≡ capped (since_by a (suc l) n)
 unfolding since_by
-since_capped (Done true) l n = omega arith
-since_capped (Done false) l n = refl
-since_capped (Refused why place) l n = refl
+since_capped (Ok true) l n = omega arith
+since_capped (Ok false) l n = refl
+since_capped (Err r) l n = refl
 
 taken_capped : (a : Answer) (l n : ℕ) → taken_by a (more (capped l)) (capped n) ≡ capped (taken_by a (suc l) n)
 unfolding taken_by
-taken_capped (Done b) l n = omega arith
-taken_capped (Refused why place) l n = refl
+taken_capped (Ok b) l n = omega arith
+taken_capped (Err r) l n = refl
 
 more_capped : (n : ℕ) → more (capped n) ≡ capped (suc n)
 more_capped n = omega arith
@@ -70,7 +70,7 @@ step_is : (e : Entry) (p : Port) (c : Course) → with_entry (state_of p c) e �
 unfolding with_entry stepped other port_after course_on octets_in sent_at
 step_is (Sent o) p c = by (is_due p o)
   where
-    by : (b : Bool) → (if b then record { port = p; course = sent_on more (capped_course c); rejected = false; place = 0; n = 0; frame = replicate 513 0 } else rejected_with (state_of p c) (place_in p o) o)
+    by : (b : Bool) → (if b then record { port = p; course = sent_on more (capped_course c); rejected = None } else rejected_with (state_of p c) (place_in p o) o)
         ≡ (if not b then rejected_with (state_of p c) (place_in p o) o else state_of p (sent_on suc c))
     by true = rw (sent_capped c) refl
     by false = refl
@@ -81,7 +81,7 @@ step_is Passed p c = rw (passed_capped c) refl
 -- ---- all lines
 
 -- behind a frame that is not due nothing changes
-stays : (ls : List (List ℕ)) (t : Judged) → t.rejected ≡ true → in_turn with_line t ls ≡ t
+stays : (ls : List (List ℕ)) (t : Judged) → is_some t.rejected ≡ true → in_turn with_line t ls ≡ t
 unfolding in_turn with_line
 stays [] t e = refl
 stays (l ∷ ls) t e = ap (λ (b : Bool). in_turn with_line (if b then t else with_entry t (entry_of l)) ls) e ∙ stays ls t e
@@ -146,7 +146,7 @@ compared (Changed x o) p c = sym (add-zero c.sent)
 compared Passed p c = sym (add-zero c.sent)
 
 pub walked_verdict : (ls : List (List ℕ)) (p : Port) (c : Course) → verdict_of (walked p c ls) ≡ capped_verdict (verdict_from p (suc c.lines) c.sent ls)
-unfolding walked verdict_from verdict_at verdict_of capped_verdict rejected_with
+unfolding walked verdict_from verdict_at verdict_by capped_verdict rejected_with
 walked_verdict [] p c = refl
 walked_verdict (l ∷ ls) p c = by (other (entry_of l) p) (walked_verdict ls (port_after p (entry_of l)) (course_on suc p (entry_of l) c))
   where

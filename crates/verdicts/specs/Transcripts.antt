@@ -1,6 +1,6 @@
 -- 02, E12: "Exactly what our own engine would write under the same settings and lines is accepted." How the calls at a port of our own stand in a
 -- capture, and the claim; Verdicts has it among the others.
-use Rattle.std.specs.Prelude.{ℕ, ◌+◌, ◌/◌, ◌%◌, ◌≤◌, ◌<◌, ◌≡◌, Bool, true, false, List, [], ◌∷◌, ◌++◌, length, take, if◌then◌else◌}
+use Rattle.std.specs.Prelude.{ℕ, ◌+◌, ◌/◌, ◌%◌, ◌≤◌, ◌<◌, ◌≡◌, Bool, true, false, List, [], ◌∷◌, ◌++◌, length, take, if◌then◌else◌, Ok, Err}
 use Rattle.octets.specs.Words.{◌below◌}
 use Rattle.octets.specs.Octets.{at}
 use Rattle.octets.specs.Texts.{text}
@@ -10,8 +10,7 @@ use Rattle.port.specs.declared.Flag.{Flag}
 use Rattle.port.specs.declared.Flag.TheVariants as flags
 use Rattle.port.specs.declared.Port.{Port}
 use Rattle.port.specs.declared.Versions.{Versions}
-use Rattle.port.specs.declared.Written.{Written}
-use Rattle.port.specs.declared.Written.TheVariants.{Octets, Refused}
+use Rattle.port.specs.Types.{Written}
 use Rattle.port.specs.Parts.{max_of}
 use Rattle.port.specs.Replies.{bit}
 use Rattle.recorder.specs.Recorder.{written, output}
@@ -65,8 +64,8 @@ setting_words n w o =
 
 -- what a request to write gave: the octets that the engine wrote, and nothing where it was refused
 unfoldable pub written_lines : Written → List ℕ → List (List ℕ)
-written_lines (Octets n) out = sent_line (take n out) ∷ []
-written_lines (Refused why) out = []
+written_lines (Ok n) out = sent_line (take n out) ∷ []
+written_lines (Err why) out = []
 
 -- how each call at a port, which is p, stands in a capture; a capture begins with the creation, and notices do not stand in it
 unfoldable pub lines_of : Port → Operation → List (List ℕ)
@@ -100,8 +99,8 @@ capture_of p (x ∷ xs) = lines_at p x ++ capture_of (port_past p x) xs
 
 -- how many requests to write were answered with octets
 unfoldable pub has_written : Written → Bool
-has_written (Octets n) = true
-has_written (Refused why) = false
+has_written (Ok n) = true
+has_written (Err why) = false
 
 unfoldable pub wrote : Port → Act → Bool
 wrote p (Call (call.create v w o)) = false

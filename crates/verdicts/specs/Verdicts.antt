@@ -1,12 +1,12 @@
 -- 02, E12: what the verdict says, and that what our own engine writes is accepted; claims over a whole capture, of any port and of any input,
 -- wherever it is cut into reads. The functions' contracts are `started`, `fed` and `finished` (Steps); Conformance has the verdict.
-use Rattle.std.specs.Prelude.{ℕ, ◌+◌, ◌≤◌, ◌≡◌, ◌⊎◌, Bool, true, false, List, [], ◌∷◌, ◌++◌, length, take, drop}
+use Rattle.std.specs.Prelude.{ℕ, ◌+◌, ◌≤◌, ◌≡◌, ◌⊎◌, Bool, true, false, List, [], ◌∷◌, ◌++◌, length, take, drop, Some, Ok, Err}
 use Rattle.octets.specs.Octets.{at}
 use Rattle.tlv.specs.declared.Refusal.{Refusal}
+use Rattle.tlv.specs.Refusals.{rejection}
 use Rattle.parameters.specs.declared.Feature.{Feature}
 use Rattle.feature.specs.declared.Switches.{Switches}
-use Rattle.port.specs.declared.Answer.{Answer}
-use Rattle.port.specs.declared.Answer.TheVariants as answer
+use Rattle.port.specs.Types.{Answer}
 use Rattle.port.specs.declared.Event.{Event}
 use Rattle.port.specs.declared.Port.{Port}
 use Rattle.port.specs.declared.Versions.{Versions}
@@ -17,6 +17,8 @@ use Rattle.creation.specs.Creation.{created, blank_port}
 use Rattle.recorder.specs.declared.Change.{Change}
 use Rattle.recorder.specs.Recorder.{happens}
 use Rattle.calls.specs.Demand1.{unmarked}
+use Rattle.words.specs.declared.Held.{Held}
+use Rattle.words.specs.Text.{pending}
 use Rattle.capture.specs.Capture.{lines}
 use Rattle.capture.specs.Feeding.{in_turn, joined}
 use Rattle.numerals.specs.Numerals.{capped}
@@ -78,15 +80,15 @@ pub record Exactly (p : Port) (ls : List (List ℕ)) : Type 0 where
 -- ---- what led there: the last line whose event asked for a send (`since`), and the last that the port took (`taken`)
 
 unfoldable pub asked : Answer → Bool
-asked (answer.Done send) = send
-asked (answer.Refused why place) = false
+asked (Ok send) = send
+asked (Err r) = false
 
 -- what an event at a port answers tells what it did
 pub record Answers (p : Port) (e : Event) : Type 0 where
   -- it asks for a send exactly if the port writes otherwise behind it than before
   pub send : asked e.answer ≡ asks p e.port
   -- and one that is refused leaves the port, but for the mark of a broken control
-  pub refused : (why : Refusal) (place : ℕ) → e.answer ≡ answer.Refused why place → unmarked e.port ≡ unmarked p
+  pub refused : (why : Refusal) (place : ℕ) → e.answer ≡ Err (rejection why place) → unmarked e.port ≡ unmarked p
 
 -- ---- over a whole capture
 
@@ -111,6 +113,12 @@ unfoldable pub capped_verdict : Verdict → Verdict
 capped_verdict (Accepted k) = Accepted (capped k)
 capped_verdict (Rejected n q) = Rejected (capped n) q
 
+-- the frame that is not due is kept, with the place of its first difference
+pub record Keeps (t : Judged) (place : ℕ) (o : List ℕ) : Type 0 where
+  pub frame : Held 513
+  pub rejected : t.rejected ≡ Some (record { place = place; frame = frame })
+  pub octets : pending frame ≡ o
+
 pub record Judges : Type 0 where
   -- the verdict is that on the lines of the whole input
   pub says : (p : Port) (reads : List (List ℕ)) → verdict_of (judged_on p reads) ≡ capped_verdict (verdict p (lines (joined reads)))
@@ -123,7 +131,7 @@ pub record Judges : Type 0 where
   -- of which `since` and `taken` go by what each frame and each change answers
   pub answers : (p : Port) (x : Change) (o : List ℕ) → Answers p (happens p x o)
   -- and the frame that is not due
-  pub kept : (p : Port) (reads : List (List ℕ)) (n q : ℕ) (f : FirstOther p (lines (joined reads)) n q) → take (judged_on p reads).n (judged_on p reads).frame ≡ f.octets
+  pub kept : (p : Port) (reads : List (List ℕ)) (n q : ℕ) (f : FirstOther p (lines (joined reads)) n q) → Keeps (judged_on p reads) q f.octets
   -- so where the input is cut into reads makes no difference
   pub cuts : (p : Port) (reads others : List (List ℕ)) → joined reads ≡ joined others → judged_on p reads ≡ judged_on p others
   -- accepted exactly if all that was sent is due, and otherwise the first that is not is named

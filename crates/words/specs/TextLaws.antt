@@ -19,6 +19,7 @@ use Rattle.std.proofs.Math.Seq.{append_snoc, take-append_seam}
 use borrow.Author.Tests.{le-leb, lt-leb, eqb-true, eqb-false}
 use Rattle.octets.specs.Words.{◌below◌, ◌atmost◌, ◌is◌}
 use Rattle.octets.specs.Octets.{at}
+use Rattle.words.specs.declared.Held.{Held}
 use Rattle.words.specs.Text.{is_digit, decimal_digits, decimal_from, decimal, is_number, number, nibble, hex_digits, pair_at, listed, octets_of, held, pending}
 use Rattle.words.specs.StepsLaws.{run, trimmed, first_word, rest, Nibbles}
 
@@ -254,3 +255,6 @@ module _ (s : List ℕ) {m : ℕ} {t r : List ℕ} where
 pub pair_read : (w : List ℕ) (i : ℕ) {x y h l : ℕ} → x ≡ at w (2 * i) → h ≡ nibble x → y ≡ at w (2 * i + 1) → l ≡ nibble y → h % 16 * 16 + l % 16 ≡ pair_at w i
 unfolding pair_at
 pair_read w i a b c d = rw (b, a, d, c)
+
+pub slice_is : {places : ℕ} (p : List ℕ) {h : Held places} {o : List ℕ} → h ≡ held places p → o ≡ pending h → o ≡ p
+slice_is {places} p e f = f ∙ rw e (pending_held places p)

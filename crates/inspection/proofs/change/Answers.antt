@@ -1,6 +1,8 @@
 -- `change` meets its contract. Assumes nothing.
-use Rattle.inspection.specs.StepLaws.{change_is}
+use Rattle.std.proofs.Common.{refl, ◌∙◌}
+use Rattle.recorder.specs.Recorder.{changed}
 use Rattle.inspection.proofs.change.Goals as goal
 
 pub returns : goal.returns
-returns c = search change_is
+unfolding changed
+returns c = c.apply.ensures ∙ rw c.as_slice.ensures.held refl

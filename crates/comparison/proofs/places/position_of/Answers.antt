@@ -6,8 +6,8 @@ use Rattle.comparison.proofs.places.position_of.Goals as goal
 pub returns-then-place-lt-FRAME_HEAD : goal.returns-then-place-lt-FRAME_HEAD
 returns-then-place-lt-FRAME_HEAD c = search position_head
 
-pub loop-i-init : goal.loop-i-init
-loop-i-init c = search seeking_start
+pub loop-init : goal.loop-init
+loop-init c = search seeking_start
 
 pub returns-in-End : goal.returns-in-End
 returns-in-End c = search seeking_none
@@ -21,8 +21,8 @@ overflow_add-start c = search head_fits
 pub returns-then-place-start : goal.returns-then-place-start
 returns-then-place-start c = search seeking_inside
 
-pub loop-i-preserved : goal.loop-i-preserved
-loop-i-preserved c = search seeking_on
+pub loop-preserved : goal.loop-preserved
+loop-preserved c = search seeking_on
 
 pub returns : goal.returns
 returns c = search seeking_end

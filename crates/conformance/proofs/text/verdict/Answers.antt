@@ -5,8 +5,8 @@ use Rattle.conformance.proofs.text.verdict.Goals as goal
 pub returns-then-out-lt-ROOM : goal.returns-then-out-lt-ROOM
 returns-then-out-lt-ROOM c = search said_short
 
-pub returns-then-t : goal.returns-then-t
-returns-then-t c = search said_rejected
+pub returns-in-Some : goal.returns-in-Some
+returns-in-Some c = search said_rejected
 
-pub returns : goal.returns
-returns c = search said_accepted
+pub returns-in-None : goal.returns-in-None
+returns-in-None c = search said_accepted
