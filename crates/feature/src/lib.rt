@@ -293,30 +293,21 @@ fn flags_in(value: &[u8]) -> Flags
     }
 }
 
-// Rules 6 to 9 of a sub-TLV's value; `desired` are the setting's own parameters, lent.
-fn judge_value(f: Feature, s: Setting, desired: &[u8], oper: u8, value: &[u8]) -> Decision
-    requires { (desired.now ≡ content s.desired) × (valid f (parameters_of value.now) ≡ true) }
-    ensures { result ≡ judged_on f (switches_of s) (content s.desired) oper (flags_of value.now) (parameters_of value.now) }
+// Rules 6 to 9 of a sub-TLV's value.
+fn judge_value(f: Feature, s: &Setting, oper: u8, value: &[u8]) -> Decision
+    requires { valid f (parameters_of value.now) ≡ true }
+    ensures { result ≡ judged_on f (switches_of s.now) (content s.now.desired) oper (flags_of value.now) (parameters_of value.now) }
 {
+    let own = s.desired.content();
     let theirs = octets::from(value, 4);
-    judge(Switches::from(s), oper, flags_in(value), || {
-        config::suits(f, desired, theirs)
+    judge(Switches::from(*s), oper, flags_in(value), || {
+        config::suits(f, own, theirs)
     })
 }
 
-// The outcome rules, first that applies: `count` sub-TLVs of the feature came, and `value` is that of the last. `desired` are the
-// setting's own parameters, lent by the caller, as the `requires` says: a copy of the setting would be lent here, and made for it.
-pub fn decide(
-    f: Feature,
-    max: u8,
-    s: Setting,
-    desired: &[u8],
-    oper: u8,
-    count: u8,
-    value: &[u8],
-) -> Decision
-    requires { desired.now ≡ content s.desired }
-    ensures { result ≡ decided (outcome f max s oper (record { count = count; value = value.now })) }
+// The outcome rules, first that applies: `count` sub-TLVs of the feature came, and `value` is that of the last.
+pub fn decide(f: Feature, max: u8, s: &Setting, oper: u8, count: u8, value: &[u8]) -> Decision
+    ensures { result ≡ decided (outcome f max s.now oper (record { count = count; value = value.now })) }
 {
     if count == 0 {
         return without_peer(Reason::Absent, max, false);
@@ -339,5 +330,5 @@ pub fn decide(
     if !config::valid(f, octets::from(value, 4)) {
         return without_peer(Reason::Bad, low, true);
     }
-    judge_value(f, s, desired, low, value)
+    judge_value(f, s, low, value)
 }

@@ -69,17 +69,15 @@ impl Which for OfApplications {
 
 // Steps 1 to 5 for one feature. It is made for each feature anew, with one caller: it is inlined there, with what it calls, and no
 // state is copied for a call.
-fn turn_of<F: Which>(x: State, h: Heard, seq: u32, s: &[u8], found: Found) -> Turn
+fn turn_of<F: Which>(x: &State, h: Heard, seq: u32, s: &[u8], found: Found) -> Turn
     requires { found.start + found.length ≤ length s.now }
-    ensures { result ≡ after_in F.FEATURE x h seq s.now found }
+    ensures { result ≡ after_in F.FEATURE x.now h seq s.now found }
 {
     let value = admission::part(s, found);
-    let own = x.setting.desired;
     let d = feature::decide(
         F::FEATURE,
         x.max,
-        x.setting,
-        own.content(),
+        &x.setting,
         x.outcome.oper,
         found.count,
         value,
@@ -104,23 +102,23 @@ fn waits(t: Turn) -> bool
 }
 
 // The notice of a feature.
-fn notice(x: State, t: Turn) -> Raised
-    ensures { result ≡ becomes x.outcome.reason t.decision.reason }
+fn notice(x: &State, t: Turn) -> Raised
+    ensures { result ≡ becomes x.now.outcome.reason t.decision.reason }
 {
     events::becomes(x.outcome.reason, t.decision.reason)
 }
 
 // Decides what a frame that is accepted changes: `admit` says that the port runs and that the parts lie inside. A release comes with
 // another SeqNo, so that the control tells whether the octets to be written differ.
-fn decide(p: Port, s: &[u8], c: Contents) -> Change
-    requires { Inside s.now c × (running p ≡ true) }
-    ensures { result ≡ change_of s.now c p }
+fn decide(p: &Port, s: &[u8], c: Contents) -> Change
+    requires { Inside s.now c × (running p.now ≡ true) }
+    ensures { result ≡ change_of s.now c p.now }
 {
     let old = p.control;
     let h = admission::hear(s, c, old);
-    let a = turn_of::<OfApplications>(p.applications, h, old.seq, s, c.applications);
-    let g = turn_of::<OfGroups>(p.groups, h, old.seq, s, c.groups);
-    let w = turn_of::<OfFlow>(p.flow, h, old.seq, s, c.flow);
+    let a = turn_of::<OfApplications>(&p.applications, h, old.seq, s, c.applications);
+    let g = turn_of::<OfGroups>(&p.groups, h, old.seq, s, c.groups);
+    let w = turn_of::<OfFlow>(&p.flow, h, old.seq, s, c.flow);
     let up = sending::raises_seq(h.control, waits(g) | waits(w) | waits(a));
     let control = sending::count(h.control, up);
     let same = port::writing::same_control(old, control);
@@ -135,9 +133,9 @@ fn decide(p: Port, s: &[u8], c: Contents) -> Change
         applications: a,
         notices: Notices {
             port: x,
-            groups: notice(p.groups, g),
-            flow: notice(p.flow, w),
-            applications: notice(p.applications, a),
+            groups: notice(&p.groups, g),
+            flow: notice(&p.flow, w),
+            applications: notice(&p.applications, a),
         },
     }
 }
@@ -145,14 +143,14 @@ fn decide(p: Port, s: &[u8], c: Contents) -> Change
 // The parameters that are held of the peer after a frame.
 fn peer_parameters(
     f: Feature,
-    x: State,
+    x: &State,
     course: Course,
     t: Turn,
     s: &[u8],
     found: Found,
 ) -> Parameters
     requires { found.start + found.length ≤ length s.now }
-    ensures { result ≡ peer_parameters_after course f (value_of s.now found) (is_some t.decision.peer) x }
+    ensures { result ≡ peer_parameters_after course f (value_of s.now found) (is_some t.decision.peer) x.now }
 {
     turn::peer_parameters_after(
         f,
@@ -180,19 +178,19 @@ fn apply(p: Port, k: Change, s: &[u8], c: Contents) -> Port
     let course = k.course;
     let z = peer_parameters(
         Feature::Applications,
-        p.applications,
+        &p.applications,
         course,
         k.applications,
         s,
         c.applications,
     );
-    let y = peer_parameters(Feature::Flow, p.flow, course, k.flow, s, c.flow);
-    let x = peer_parameters(Feature::Groups, p.groups, course, k.groups, s, c.groups);
+    let y = peer_parameters(Feature::Flow, &p.flow, course, k.flow, s, c.flow);
+    let x = peer_parameters(Feature::Groups, &p.groups, course, k.groups, s, c.groups);
     let mut next = p;
     next.control = k.control;
-    next.groups = turn::renew(p.groups, k.groups, x);
-    next.flow = turn::renew(p.flow, k.flow, y);
-    next.applications = turn::renew(p.applications, k.applications, z);
+    turn::renew(&mut next.groups, k.groups, x);
+    turn::renew(&mut next.flow, k.flow, y);
+    turn::renew(&mut next.applications, k.applications, z);
     next
 }
 
@@ -202,7 +200,7 @@ pub fn accept(p: Port, s: &[u8], c: Contents) -> Event
     requires { Admits p s.now (Ok c) }
     ensures { result ≡ handled p s.now }
 {
-    let change = decide(p, s, c);
+    let change = decide(&p, s, c);
     let next = apply(p, change, s, c);
     if change.releases {
         return Event {

@@ -28,8 +28,8 @@ pub struct Turn {
 }
 
 // The feature stays as it is, but for Syncd.
-fn kept(x: State, syncd: bool) -> Turn
-    ensures { result ≡ kept_at x syncd }
+fn kept(x: &State, syncd: bool) -> Turn
+    ensures { result ≡ kept_at x.now syncd }
 {
     Turn {
         decision: Decision::from(x.outcome),
@@ -40,10 +40,10 @@ fn kept(x: State, syncd: bool) -> Turn
 
 // Step 5 of handling: a feature whose sub-TLV changed waits for a new acknowledgement. Of what is written a frame changes only
 // Oper and Error.
-fn weigh(x: State, d: Decision, syncd: bool, seq: u32) -> Turn
-    ensures { result ≡ weighed x d syncd seq }
+fn weigh(x: &State, d: Decision, syncd: bool, seq: u32) -> Turn
+    ensures { result ≡ weighed x.now d syncd seq }
 {
-    let o = x.outcome;
+    let o = &x.outcome;
     if o.oper != d.oper {
         return anew(d, seq);
     }
@@ -69,11 +69,11 @@ fn anew(d: Decision, seq: u32) -> Turn
 }
 
 // Step 1 of handling: the frame had two or more controls.
-fn twice(f: Feature, x: State, seq: u32) -> Turn
-    ensures { result ≡ turn_of (marked f seq x (control_twice x)) }
+fn twice(f: Feature, x: &State, seq: u32) -> Turn
+    ensures { result ≡ turn_of (marked f seq x.now (control_twice x.now)) }
 {
-    let s = x.setting;
-    let o = x.outcome;
+    let s = &x.setting;
+    let o = &x.outcome;
     if !s.advertise {
         return kept(x, x.syncd);
     }
@@ -86,18 +86,18 @@ fn twice(f: Feature, x: State, seq: u32) -> Turn
 }
 
 // Step 3 of handling: whether the feature is Syncd, by what RcvdAckNo and SeqNo acknowledge.
-fn acknowledged(x: State, rcvd: u32, seq: u32) -> bool
-    ensures { result ≡ (x.syncd || (x.sequence is rcvd && x.sequence is seq)) }
+fn acknowledged(x: &State, rcvd: u32, seq: u32) -> bool
+    ensures { result ≡ (x.now.syncd || (x.now.sequence is rcvd && x.now.sequence is seq)) }
 {
     x.syncd | ((x.sequence == rcvd) & (x.sequence == seq))
 }
 
 // Steps 3 and 4 of handling, with `d` of the outcome rules on what the frame had of the feature; and step 5.
-fn receive(f: Feature, x: State, rcvd: u32, seq: u32, count: u8, value: &[u8], d: Decision) -> Turn
-    requires { d ≡ decided_at f x count value.now }
-    ensures { result ≡ turn_of (marked f seq x (received f (record { count = count; value = value.now }) (acknowledged rcvd seq x))) }
+fn receive(f: Feature, x: &State, rcvd: u32, seq: u32, count: u8, value: &[u8], d: Decision) -> Turn
+    requires { d ≡ decided_at f x.now count value.now }
+    ensures { result ≡ turn_of (marked f seq x.now (received f (record { count = count; value = value.now }) (acknowledged rcvd seq x.now))) }
 {
-    let s = x.setting;
+    let s = &x.setting;
     let syncd = acknowledged(x, rcvd, seq);
     if !s.advertise {
         return kept(x, syncd);
@@ -109,7 +109,7 @@ fn receive(f: Feature, x: State, rcvd: u32, seq: u32, count: u8, value: &[u8], d
 // short enough to be inlined for each feature; hence the `requires`, for `handling` alone.
 pub fn handle(
     f: Feature,
-    x: State,
+    x: &State,
     course: Course,
     rcvd: u32,
     seq: u32,
@@ -117,8 +117,8 @@ pub fn handle(
     value: &[u8],
     d: Decision,
 ) -> Turn
-    requires { d ≡ decided_at f x count value.now }
-    ensures { result ≡ turn_of (after course f (record { count = count; value = value.now }) rcvd seq x) }
+    requires { d ≡ decided_at f x.now count value.now }
+    ensures { result ≡ turn_of (after course f (record { count = count; value = value.now }) rcvd seq x.now) }
 {
     match course {
         Course::Twice => twice(f, x, seq),
@@ -129,24 +129,24 @@ pub fn handle(
 
 // Whether a frame leaves what is held of the peer.
 #[tactic(auto, unfolding(crate::specs::TurnLaws::keeps_by))]
-fn keeps(x: State, course: Course) -> bool
-    ensures { result ≡ keeps_by course x }
+fn keeps(x: &State, course: Course) -> bool
+    ensures { result ≡ keeps_by course x.now }
 {
-    let s = x.setting;
+    let s = &x.setting;
     !s.advertise || matches!(course, Course::OtherVersion)
 }
 
 // The parameters held of the peer after a frame: `held` says whether there is one.
 pub fn peer_parameters_after(
     f: Feature,
-    x: State,
+    x: &State,
     course: Course,
     held: bool,
     value: &[u8],
 ) -> Parameters
-    ensures { result ≡ peer_parameters_after course f value.now held x }
+    ensures { result ≡ peer_parameters_after course f value.now held x.now }
 {
-    let o = x.outcome;
+    let o = &x.outcome;
     if keeps(x, course) {
         return feature::parameters_held(o.peer);
     }
@@ -157,13 +157,10 @@ pub fn peer_parameters_after(
 }
 
 // The state after a frame.
-pub fn renew(x: State, t: Turn, p: Parameters) -> State
-    ensures { result ≡ renewed x t p }
+pub fn renew(x: &mut State, t: Turn, p: Parameters)
+    ensures { x.new ≡ renewed x.old t p }
 {
-    let outcome = feature::outcome_of(t.decision, p);
-    let mut next = x;
-    next.outcome = outcome;
-    next.syncd = t.syncd;
-    next.sequence = t.sequence;
-    next
+    x.outcome = feature::outcome_of(t.decision, p);
+    x.syncd = t.syncd;
+    x.sequence = t.sequence;
 }

@@ -6,5 +6,5 @@ use Rattle.feature.proofs.judge_value.Goals as goal
 
 pub returns : goal.returns
 returns c =
-    judged_value c.args.f c.args.s c.args.oper c.args.value.now c.from.ensures c.requires.0 c.flags_in.ensures c.from-theirs.ensures
-    (c.judge.ensures (compatible c.args.f c.args.desired.now c.from-theirs.result.now) (λ b p. search rules))
+    judged_value c.args.f c.args.s.now c.args.oper c.args.value.now c.from.ensures c.content-own.ensures c.flags_in.ensures c.from-theirs.ensures
+    (c.judge.ensures (compatible c.args.f c.content-own.result.now c.from-theirs.result.now) (λ b p. search rules))

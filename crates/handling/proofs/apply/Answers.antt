@@ -4,4 +4,4 @@ use Rattle.handling.proofs.apply.Goals as goal
 
 pub returns : goal.returns
 returns c = apply_is _ _ _ c.requires.1 c.peer_parameters-x.ensures c.peer_parameters-y.ensures c.peer_parameters-z.ensures
-    c.renew-next.ensures c.renew-next-2.ensures c.renew-next-3.ensures
+    c.renew.ensures c.renew-2.ensures c.renew-3.ensures
