@@ -122,6 +122,7 @@ pub fn pass_lines<'a, T: Lines>(t: &mut T, front: &'a [u8], s: &'a [u8]) -> usiz
     ensures { Passes T.with_line t.old front.now s.now t.new result }
 {
     let mut at: usize = 0;
+    // `at` moves by a line's length: nothing is counted.
     while at < s.len() {
         let rest = octets::from(s, at);
         let n = line_length(rest);
