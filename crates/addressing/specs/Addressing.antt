@@ -15,6 +15,7 @@ passed_over s = length s is 0 || at s 0 is 35
 abbrev pub port_number : List ℕ → Option ℕ
 port_number s = number 255 (first (words s))
 
+-- as an octet
 unfoldable pub port_word : Option ℕ → Option ℕ
 port_word None = None
 port_word (Some n) = Some (n % 256)

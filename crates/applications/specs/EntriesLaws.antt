@@ -7,9 +7,9 @@ use Rattle.std.specs.List.{list_all}
 use Rattle.std.specs.Simd.{first_chunks}
 use Rattle.octets.specs.Words.{◌below◌}
 use Rattle.parameters.specs.declared.Feature.TheVariants.{Applications}
-use Rattle.parameters.specs.Parameters.{entry_count, selector_of, all_from, is_ours, local_values, clash, clear_of, compatible}
+use Rattle.parameters.specs.Parameters.{entry_count, selector_of, same_name, all_from, is_ours, local_values, clash, clear_of, compatible}
 use Rattle.applications.specs.Entries.{entries, local_entry, no_clash}
-use Rattle.applications.specs.OursLaws.{SameEntry, own_same, selector_same, clash_same}
+use Rattle.applications.specs.OursLaws.{SameEntry, own_same, selector_same, name_same, clash_same}
 
 -- ---- which entries they are
 
@@ -38,6 +38,15 @@ module _ (p : List ℕ) {i : ℕ} (d : List ℕ) (h : i < entry_count p) where
       record {
         octet = λ x l. let z : 6 * 0 + x ≡ x = omega arith in rw (z, entry_at) (get_or-take 6 (drop (6 * i) p) x 0 l ∙ get_or-drop (6 * i) p x 0);
       }
+
+-- ---- an entry by its place in the parameters, as the definitions of `parameters` count it, and by its six octets
+
+pub entry_ours : (p : List ℕ) {i : ℕ} (d : List ℕ) → i < entry_count p → is_ours (get_or (entries p) i d) 0 ≡ is_ours p i
+entry_ours p d h = own_same (entry_is p d h)
+
+pub entry_names : (p q : List ℕ) {i j : ℕ} (d : List ℕ) → i < entry_count p → j < entry_count q
+    → same_name (get_or (entries p) i d) 0 (get_or (entries q) j d) 0 ≡ same_name p i q j
+entry_names p q d h k = name_same (entry_is p d h) (entry_is q d k)
 
 -- the same of what a walk over them meets
 module _ (p : List ℕ) {es : List (List ℕ)} {i : ℕ} (all : es ≡ entries p) (h : i < length es) where

@@ -27,6 +27,7 @@ fn id_of(e: &Entry) -> u16
     u16::from_be_bytes([e[0], e[1]])
 }
 
+// The selector of an entry.
 pub fn selector_of(e: &Entry) -> u8
     ensures { result ≡ selector_of e.now 0 }
 {

@@ -30,9 +30,10 @@ pub record Before (s : List ℕ) (n : ℕ) : Type 0 where
 abbrev pub clipped : List ℕ → List ℕ
 clipped w = take 1101 w
 
--- as it is held
+-- the front of a line, in memory of a fixed size
 abbrev pub Front : Type 0
 Front = Held 1101
 
+-- as it is held
 abbrev pub held_of : List ℕ → Front
 held_of w = held 1101 w

@@ -117,11 +117,12 @@ pub trait Lines {
 }
 
 // Takes the lines that end in `s`. The first of them began before `s`, and is `front` as a whole. Answers the place behind the
-// last line feed.
+// last line feed. A `while`, since a step is as long as a line.
 pub fn pass_lines<'a, T: Lines>(t: &mut T, front: &'a [u8], s: &'a [u8]) -> usize
     ensures { Passes T.with_line t.old front.now s.now t.new result }
 {
     let mut at: usize = 0;
+    // `at` moves by a line's length: nothing is counted.
     while at < s.len() {
         let rest = octets::from(s, at);
         let n = line_length(rest);

@@ -54,7 +54,7 @@ fn run(streams: Streams, input: &mut Input, page: &mut Output, start: Recorder) 
         let i = recorder::place_of(n);
         if script::is_frame(said) {
             let frame = words::frame_of(said);
-            if let Some(k) = repeating::repeat(n, held.ports[i], frame.as_slice()) {
+            if let Some(k) = repeating::repeat(n, &held.ports[i], frame.as_slice()) {
                 held.ports[i].control = k.control;
                 report::answers::done(page, k.wish, 0);
                 continue;

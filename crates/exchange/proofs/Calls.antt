@@ -2,6 +2,7 @@
 -- port wrote is handled as its message. Assumes nothing.
 use Rattle.tlv.specs.Refusals.{rejection}
 use Prim.Native.Nat.{ℕ}
+use native.Mathlib.Omega.{arith}
 use mathlib.Core.Path.{◌≡◌, refl, ap, ◌∙◌}
 use mathlib.Core.Bool.{Bool, true, false, not}
 use mathlib.Core.List.{List, ◌++◌}
@@ -79,8 +80,7 @@ read_as Rev10 o c e = ap skipping e
 
 pub control_as : (v : Revision) (c : Contents) → (contents_for v c).control ≡ c.control
 unfolding contents_for
-control_as Rev101 c = refl
-control_as Rev10 c = refl
+control_as v c = grind arith
 
 received_blind : (x : State) (r s : Received) → x.setting.advertise ≡ false → received Applications r x ≡ received Applications s x
 unfolding received

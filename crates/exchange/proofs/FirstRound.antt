@@ -18,31 +18,20 @@ use Rattle.exchange.proofs.Stages.{Silent, quiet_silent, After0, After1}
 module _ (x : Side) where
   fresh_offer : offer_of (fresh_machine x).outcome ≡ record { oper = x.max; error = false }
   unfolding fresh_at
-  fresh_offer = by x.setting.advertise refl
-    where
-      by : (b : Bool) → x.setting.advertise ≡ b → offer_of (fresh_machine x).outcome ≡ record { oper = x.max; error = false }
-      by true e = rw e
-      by false e = rw e
+  fresh_offer = grind arith
 
   -- an advertised feature is asked for under SeqNo 1
   fresh_sequence : (fresh_machine x).sequence ≡ 1
   unfolding fresh_at
-  fresh_sequence = by x.setting.advertise refl
-    where
-      by : (b : Bool) → x.setting.advertise ≡ b → (fresh_machine x).sequence ≡ 1
-      by true e = rw e
-      by false e = rw e
+  fresh_sequence = grind arith
 
   fresh_asked : x.setting.advertise ≡ true → (fresh_machine x).syncd ≡ false
   unfolding fresh_at
   fresh_asked e = rw e
 
   pub fresh_synced : (fresh_machine x).syncd ≡ true → x.setting.advertise ≡ false
-  fresh_synced h = by x.setting.advertise refl
-    where
-      by : (b : Bool) → x.setting.advertise ≡ b → x.setting.advertise ≡ false
-      by true e = absurd (false≢true (sym (fresh_asked e) ∙ h))
-      by false e = e
+  unfolding fresh_at
+  fresh_synced h = grind arith
 
 pub start : (s t : Settings) → After0 s t (started s) 0
 unfolding started bump
@@ -75,14 +64,12 @@ first_either s t e =
 
 low_next : (b : Bool) (low : ℕ) (s : Settings) (p : Core) (m : Message) → (gated b low s p m).oper ≡ low
 unfolding gated
-low_next true low s p m = refl
-low_next false low s p m = refl
+low_next b low s p m = grind arith
 
 module _ (s t : Settings) (p q : Core) (low : ℕ) where
   there_ack : (taken : Bool) → (gated taken low t q (message s p)).ack ≡ cond taken p.seq q.ack
   unfolding gated message
-  there_ack true = refl
-  there_ack false = refl
+  there_ack taken = grind arith
 
   abbrev after_first : Bool → Core
   after_first took = gated took low s p (message t q)

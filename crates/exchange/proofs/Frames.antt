@@ -1,5 +1,5 @@
 -- What a sound port writes is read as its message. Assumes nothing.
-use Prim.Native.Nat.{ℕ, ◌+◌, ◌<◌, ◌≤◌, ◌^◌}
+use Prim.Native.Nat.{ℕ, ◌+◌, ◌≤◌}
 use native.Mathlib.Omega.{arith}
 use mathlib.Core.Path.{◌≡◌, refl, ap, ◌∙◌}
 use mathlib.Core.Bool.{Bool, true, false}
@@ -7,7 +7,7 @@ use mathlib.Core.List.{List, [], ◌++◌}
 use lib.ListN.{length, length-append}
 use borrow.Author.Tests.{eqb-true}
 use Rattle.std.specs.Prelude.{if◌then◌else◌, Ok}
-use Rattle.octets.specs.Octets.{at, number4, octets4, headed, head}
+use Rattle.octets.specs.Octets.{at, number4, headed, head}
 use Rattle.octets.specs.Laws.{and_left}
 use Rattle.contents.specs.declared.Contents.{Contents}
 use Rattle.tlv.specs.Layout.{fixed_octets, frame_head}
@@ -23,6 +23,7 @@ use Rattle.feature.specs.declared.Release.{Release}
 use Rattle.feature.specs.declared.Setting.{Setting}
 use Rattle.feature.specs.Outcome.{Received}
 use Rattle.machine.specs.State.{value, release_tlv}
+use Rattle.port.proofs.WritingLaws.{number4_octets4}
 use Rattle.port.specs.declared.Port.{Port}
 use Rattle.port.specs.Parts.{feature_of, released_of}
 use Rattle.port.specs.Writing.{control_value, released_tlv, sub_tlvs, frame}
@@ -85,9 +86,6 @@ subs_length q h =
 
 -- ---- reading it
 
-number_read : (n : ℕ) → n < 2 ^ 32 → number4 (octets4 n) 0 ≡ n
-number_read n h = omega arith
-
 module _ (q : Port) (h : SoundPort q) where
   laid_out : LaidOut (parts_of q)
   laid_out = record { long = refl; versions = h.control.oper; groups = refl; flow = refl; applications = refl }
@@ -113,8 +111,7 @@ module _ (q : Port) (h : SoundPort q) where
       ◌≡◌ {A = Received} (record { count = c.count; value = c.value })
       (core.written b (record { max = max; setting = x.setting }) (record { oper = x.oper; error = x.error }))
   unfolding core.written
-  part_read max x c e true a = rw (e, a)
-  part_read max x c e false a = rw (e, a)
+  part_read max x c e b a = grind arith
 
   -- of a port that has released no applications none are found
   pub none_written : q.released.applications.setting.advertise ≡ false → contents.applications.count ≡ 0
@@ -124,10 +121,10 @@ module _ (q : Port) (h : SoundPort q) where
 
   -- the numbers of control
   pub seq_read : (message (frame q) contents).seq ≡ q.control.seq
-  seq_read = ap (λ v. number4 v 2) control_read ∙ number_read q.control.seq h.control.seq
+  seq_read = ap (λ v. number4 v 2) control_read ∙ number4_octets4 q.control.seq h.control.seq
 
   pub ack_read : (message (frame q) contents).ack ≡ q.control.ack
-  ack_read = ap (λ v. number4 v 6) control_read ∙ number_read q.control.ack h.control.ack
+  ack_read = ap (λ v. number4 v 6) control_read ∙ number4_octets4 q.control.ack h.control.ack
 
   -- of each feature what was released
   pub has_released : (f : Feature) → (let x : Release = released_of q f in

@@ -59,10 +59,7 @@ compatible_laws =
 -- ---- two settings alone
 
 beq_comm : (a b : Bool) → beq a b ≡ beq b a
-beq_comm true true = refl
-beq_comm true false = refl
-beq_comm false true = refl
-beq_comm false false = refl
+beq_comm a b = grind arith
 
 -- rules 6 to 9 over what they test of two sides
 abbrev judged_of : Feature → Side → Side → Bool → Peer → Outcome

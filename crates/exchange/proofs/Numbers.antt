@@ -64,9 +64,7 @@ module _ (n : Outcome) (x : Machine) (rcvd seq : ℕ) where
 
   synced_by : (c : Bool) → c ≡ false → rcvd ≡ seq → (o : Offer) → Shown seq x o → (marked c seq n (synced rcvd seq x)).syncd ≡ true
   unfolding marked synced
-  synced_by true e r o h = absurd (false≢true (sym e))
-  synced_by false e r o (inl h, k) = rw h
-  synced_by false e r o (inr h, k) = rw (h, r, is_same seq) (or-true x.syncd)
+  synced_by c e r o h = grind arith
 
 -- ---- the send rule
 

@@ -40,10 +40,7 @@ version_le true own peer = min-le_left _ _
 -- the Error does not depend on the peer's error flag
 judged_by_error : (a b c willing : Bool) (oper : ℕ) (p q : Peer) → (judged_by a b c willing oper p).error ≡ (judged_by a b c willing oper q).error
 unfolding judged_by
-judged_by_error false b c willing oper p q = refl
-judged_by_error true false c willing oper p q = refl
-judged_by_error true true true willing oper p q = refl
-judged_by_error true true false willing oper p q = refl
+judged_by_error a b c willing oper p q = grind arith
 
 -- what is held of a peer with an error flag
 abbrev pub held_of : Side → Bool → Peer
@@ -56,34 +53,13 @@ judged_error f s oper peer e d = simp judged_by_lem (judged_by_error _ _ _ s.wil
 -- ---- flags are read as they are written
 
 pub flag_enable : (en wi er : Bool) → (128 atmost flags en wi er) ≡ en
-flag_enable true true true = refl
-flag_enable true true false = refl
-flag_enable true false true = refl
-flag_enable true false false = refl
-flag_enable false true true = refl
-flag_enable false true false = refl
-flag_enable false false true = refl
-flag_enable false false false = refl
+flag_enable en wi er = grind arith
 
 pub flag_willing : (en wi er : Bool) → (64 atmost flags en wi er % 128) ≡ wi
-flag_willing true true true = refl
-flag_willing true true false = refl
-flag_willing true false true = refl
-flag_willing true false false = refl
-flag_willing false true true = refl
-flag_willing false true false = refl
-flag_willing false false true = refl
-flag_willing false false false = refl
+flag_willing en wi er = grind arith
 
 pub flag_error : (en wi er : Bool) → (32 atmost flags en wi er % 64) ≡ er
-flag_error true true true = refl
-flag_error true true false = refl
-flag_error true false true = refl
-flag_error true false false = refl
-flag_error false true true = refl
-flag_error false true false = refl
-flag_error false false true = refl
-flag_error false false false = refl
+flag_error en wi er = grind arith
 
 -- ---- rules 1 to 9 for a sub-TLV that a port wrote
 

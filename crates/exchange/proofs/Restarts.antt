@@ -45,10 +45,7 @@ module _ (p : Port) where
   -- a flag with which the port comes to run is none of the neighbours', and it restarts the port
   module _ (on : Bool) (r : running p ≡ false) where
     keeps_several : (x : Flag) → running (with_flag p x on) ≡ true → (with_flag p x on).several ≡ p.several
-    keeps_several Admin n = refl
-    keeps_several Receive n = refl
-    keeps_several Transmit n = refl
-    keeps_several Several n = absurd (false≢true (sym r ∙ n))
+    keeps_several x n = grind arith
 
     stays_stopped : (x : Flag) → restarts x on p (with_flag p x on) ≡ false → running p ≡ running (with_flag p x on)
     unfolding restarts
@@ -92,9 +89,7 @@ module _ (p : Port) where
           else with_features q (λ f. stopped (feature_of q f))
 
       by : (a b : Bool) → state (fresh_parts (with_flag p Several on)) a b ≡ with_flag (state (fresh_parts p) a b) Several on
-      by true true = refl
-      by true false = refl
-      by false b = refl
+      by a b = grind arith
 
 -- the neighbours' flag on, and off again
 both_several : (p : Port) → p.several ≡ false → (flagged Several false (flagged Several true p).port).port ≡ fresh_port p

@@ -2,7 +2,7 @@
 use Prim.Native.Nat.{ℕ}
 use native.Mathlib.Omega.{arith}
 use mathlib.Core.Path.{◌≡◌, refl, sym, ap, ◌∙◌, subst}
-use mathlib.Core.Bool.{Bool, true, false, false≢true}
+use mathlib.Core.Bool.{Bool, true, false}
 use mathlib.Core.List.{List}
 use lib.ListN.{take}
 use Rattle.std.specs.Prelude.{if◌then◌else◌, Ok, Err}
@@ -11,12 +11,10 @@ use Rattle.notices.specs.Notices.{is_port}
 use Rattle.contents.specs.declared.Contents.{Contents}
 use Rattle.contents.specs.declared.Found.{Found}
 use Rattle.tlv.specs.declared.Revision.{Revision}
-use Rattle.tlv.specs.declared.Revision.TheVariants.{Rev101, Rev10}
 use Rattle.contents.specs.Contents.{value_of}
 use Rattle.tlv.specs.Revisions.{has_applications}
 use Rattle.tlv.specs.declared.Refusal.TheVariants.{NoPort}
 use Rattle.parameters.specs.declared.Feature.{Feature}
-use Rattle.parameters.specs.declared.Feature.TheVariants.{Groups, Flow, Applications}
 use Rattle.feature.specs.declared.Release.{Release}
 use Rattle.feature.specs.Outcome.{Received, oper_of, max_of, enable_of, willing_of, error_of, parameters_of}
 use Rattle.port.specs.declared.Port.{Port}
@@ -37,19 +35,11 @@ use Rattle.exchange.proofs.Calls.{write_leaves, contents_for, read_as, control_a
 module _ (o : List ℕ) (c : Contents) where
   has_known : (v : Revision) (f : Feature) → knows v f ≡ true → has_of o (contents_for v c) f ≡ has_of o c f
   unfolding contents_for has_applications
-  has_known Rev101 f k = refl
-  has_known Rev10 Groups k = refl
-  has_known Rev10 Flow k = refl
-  has_known Rev10 Applications k = absurd (false≢true k)
+  has_known v f k = grind arith
 
   has_skipped : (v : Revision) (f : Feature) → knows v f ≡ false → (has_of o (contents_for v c) f).count ≡ 0
   unfolding contents_for has_applications
-  has_skipped Rev101 Groups k = absurd (false≢true (sym k))
-  has_skipped Rev101 Flow k = absurd (false≢true (sym k))
-  has_skipped Rev101 Applications k = absurd (false≢true (sym k))
-  has_skipped Rev10 Groups k = absurd (false≢true (sym k))
-  has_skipped Rev10 Flow k = absurd (false≢true (sym k))
-  has_skipped Rev10 Applications k = refl
+  has_skipped v f k = grind arith
 
   has_none : (v : Revision) (f : Feature) → (has_of o c f).count ≡ 0 → (has_of o (contents_for v c) f).count ≡ 0
   has_none v f e = by (knows v f) refl

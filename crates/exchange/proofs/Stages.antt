@@ -1,6 +1,7 @@
 -- What holds of one end after each of the first six rounds, and after every later one. Assumes nothing.
 use Prim.Native.Nat.{ℕ, ◌≤◌, min}
 use native.Mathlib.Nat.{min_comm, le_refl}
+use native.Mathlib.Omega.{arith}
 use mathlib.Core.Path.{◌≡◌, refl, sym, ap, ◌∙◌}
 use mathlib.Core.Logic.{◌⊎◌}
 use mathlib.Core.Bool.{Bool, true, false, false≢true}
@@ -114,8 +115,7 @@ module _ (s t : Settings) (p q : Core) (low : ℕ) where
     where
       both : (c : Bool) →
           (marked c p.seq (new_out s low p (message t q) f) (synced q.ack p.seq (p.feat f))).outcome ≡ new_out s low p (message t q) f
-      both true = refl
-      both false = refl
+      both c = grind arith
 
   pub answers_next : Fit t → Bound t q.offer → Answers s t next_port q.offer
   unfolding message turned

@@ -1,5 +1,6 @@
 -- Two ends that have just started follow two ends of messages that have. Assumes nothing.
 use Prim.Native.Nat.{ℕ}
+use native.Mathlib.Omega.{arith}
 use mathlib.Core.Path.{◌≡◌, refl, sym, ap, ◌∙◌, subst}
 use mathlib.Core.Bool.{Bool, true, false}
 use Rattle.std.specs.Prelude.{if◌then◌else◌}
@@ -22,8 +23,7 @@ use Rattle.exchange.proofs.Simulation.{Runs, Like}
 
 pub fresh_side : (max : ℕ) (s : Setting) (b : Bool) → s.advertise ≡ b → side_of_state (fresh max s) ≡ record { max = max; setting = s }
 unfolding fresh_at
-fresh_side max s true e = rw e
-fresh_side max s false e = rw e
+fresh_side max s b e = grind arith
 
 module _ (p : Port) where
   pub fresh_settings : settings (fresh_parts p) ≡ settings p
@@ -35,9 +35,7 @@ module _ (p : Port) where
       sides Applications = fresh_side p.applications.max p.applications.setting _ refl
 
   fresh_machine_lem : (f : Feature) → machine_of (feature_of (fresh_parts p) f) ≡ fresh_machine (side_of p f)
-  fresh_machine_lem Groups = refl
-  fresh_machine_lem Flow = refl
-  fresh_machine_lem Applications = refl
+  fresh_machine_lem f = grind arith
 
   pub fresh_runs : running p ≡ true → fresh_port p ≡ sent (fresh_parts p)
   unfolding fresh_port
@@ -45,14 +43,10 @@ module _ (p : Port) where
 
   -- all of it is released
   fresh_offer : (f : Feature) → offer_at (fresh_parts p) f ≡ offer_of (fresh_machine (side_of p f)).outcome
-  fresh_offer Groups = refl
-  fresh_offer Flow = refl
-  fresh_offer Applications = refl
+  fresh_offer f = grind arith
 
   fresh_offers_lem : Offers (fresh_parts p)
-  fresh_offers_lem Groups = refl
-  fresh_offers_lem Flow = refl
-  fresh_offers_lem Applications = refl
+  fresh_offers_lem f = grind arith
 
   view_fresh : view (sent (fresh_parts p)) ≡ started (settings p)
   unfolding started core.released
@@ -80,8 +74,7 @@ module _ (p : Port) where
       })
     where
       released_same : (b : Bool) → core.released b (core.fresh_machines (settings p)) (λ f. offer_of (core.fresh_machines (settings p) f).outcome) ≡ (λ f. offer_of (core.fresh_machines (settings p) f).outcome)
-      released_same true = refl
-      released_same false = refl
+      released_same b = grind arith
 
 pub view_started : (p : Port) → JustStarted p → view p ≡ started (settings p)
 view_started p h = ap view (sym h.fresh ∙ fresh_runs p h.runs) ∙ view_fresh p

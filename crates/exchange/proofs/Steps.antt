@@ -1,6 +1,7 @@
 -- Steps 3 to 5 of one feature, seen as what they do to its machine; they leave its side. Assumes nothing.
 use Prim.Native.Nat.{ℕ}
-use mathlib.Core.Path.{◌≡◌, refl, ap, ◌∙◌}
+use native.Mathlib.Omega.{arith}
+use mathlib.Core.Path.{◌≡◌, ap, ◌∙◌}
 use mathlib.Core.Bool.{Bool, true, false, not, beq, and-true}
 use mathlib.Core.List.{[]}
 use Rattle.std.specs.Prelude.{if◌then◌else◌}
@@ -23,22 +24,7 @@ use Rattle.invariants.proofs.Tests.{is_same}
 -- ---- a feature's written sub-TLV differs exactly if Oper or Error does
 
 same_flags : (en wi e d : Bool) → (flags en wi e is flags en wi d) ≡ beq e d
-same_flags true true true true = refl
-same_flags true true true false = refl
-same_flags true true false true = refl
-same_flags true true false false = refl
-same_flags true false true true = refl
-same_flags true false true false = refl
-same_flags true false false true = refl
-same_flags true false false false = refl
-same_flags false true true true = refl
-same_flags false true true false = refl
-same_flags false true false true = refl
-same_flags false true false false = refl
-same_flags false false true true = refl
-same_flags false false true false = refl
-same_flags false false false true = refl
-same_flags false false false false = refl
+same_flags en wi e d = grind arith
 
 sub_tlv_is : (f : Feature) (x : State) → x.setting.advertise ≡ true → sub_tlv f x ≡ headed (feature_number f) (value x.max (present x))
 unfolding release_tlv
@@ -101,14 +87,12 @@ module _ (f : Feature) (rcvd seq : ℕ) (r : Received) (x : State) where
 
   asked_side : (b : Bool) → side_of_state (if b then asked seq (after rcvd seq x ruled) else after rcvd seq x ruled) ≡ side_of_state x
   unfolding turn.acknowledged
-  asked_side true = refl
-  asked_side false = refl
+  asked_side b = grind arith
 
   asked_machine : (b : Bool) →
       machine_of (if b then asked seq (after rcvd seq x ruled) else after rcvd seq x ruled) ≡ core.marked b seq ruled (core.synced rcvd seq (machine_of x))
   unfolding turn.acknowledged core.marked core.synced
-  asked_machine true = refl
-  asked_machine false = refl
+  asked_machine b = grind arith
 
   pub side_stepped : (b : Bool) → x.setting.advertise ≡ b → side_of_state (stepped f rcvd seq r x) ≡ side_of_state x
   unfolding turn.acknowledged

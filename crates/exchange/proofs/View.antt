@@ -1,5 +1,6 @@
 -- A port seen by its settings and by what frames change of it, and what one message does to it. Assumes nothing.
 use Prim.Native.Nat.{ℕ, min}
+use native.Mathlib.Omega.{arith}
 use mathlib.Core.Path.{◌≡◌, refl, sym, ap, ◌∙◌}
 use mathlib.Core.Bool.{Bool, true, false, ◌&&◌}
 use Rattle.std.specs.Prelude.{if◌then◌else◌}
@@ -44,33 +45,23 @@ view p =
 
 module _ (p : Port) (c : Control) where
   of_control : (f : Feature) → feature_of (with_control p c) f ≡ feature_of p f
-  of_control Groups = refl
-  of_control Flow = refl
-  of_control Applications = refl
+  of_control f = grind arith
 
   offer_control : (f : Feature) → offer_at (with_control p c) f ≡ offer_at p f
-  offer_control Groups = refl
-  offer_control Flow = refl
-  offer_control Applications = refl
+  offer_control f = grind arith
 
   of_release : (f : Feature) → feature_of (release (with_control p c)) f ≡ feature_of p f
-  of_release Groups = refl
-  of_release Flow = refl
-  of_release Applications = refl
+  of_release f = grind arith
 
   offer_release : (f : Feature) → offer_at (release (with_control p c)) f ≡ offer_of (feature_of p f).outcome
-  offer_release Groups = refl
-  offer_release Flow = refl
-  offer_release Applications = refl
+  offer_release f = grind arith
 
 -- what is released of each feature is of its present setting: no setting changes in an exchange
 abbrev pub Offers : Port → Type 0
 Offers p = (f : Feature) → (released_of p f).setting ≡ (feature_of p f).setting
 
 offers_release : (p : Port) → Offers (release p)
-offers_release p Groups = refl
-offers_release p Flow = refl
-offers_release p Applications = refl
+offers_release p f = grind arith
 
 pub offers_sent : (p : Port) → Offers p → Offers (sending.sent p)
 unfolding sending.sent
@@ -201,9 +192,7 @@ kept_sent p q h =
 module _ (low : ℕ) (m : Message) (p : Port) where
   feature_exchanged : (f : Feature) → feature_of (step5 p (exchanged low m p)) f ≡ stepped f m.ack p.control.seq (m.has f) (feature_of p f)
   unfolding exchanged
-  feature_exchanged Groups = refl
-  feature_exchanged Flow = refl
-  feature_exchanged Applications = refl
+  feature_exchanged f = grind arith
 
   feature_met : (f : Feature) → feature_of (step5 p (with_control p (met low p.control))) f ≡ feature_of p f
   feature_met Groups = marked_same Groups p.control.seq p.groups
@@ -213,14 +202,10 @@ module _ (low : ℕ) (m : Message) (p : Port) where
   -- what is released stays until the send rule
   offer_exchanged : (f : Feature) → offer_at (step5 p (exchanged low m p)) f ≡ offer_at p f
   unfolding exchanged
-  offer_exchanged Groups = refl
-  offer_exchanged Flow = refl
-  offer_exchanged Applications = refl
+  offer_exchanged f = grind arith
 
   offer_met : (f : Feature) → offer_at (step5 p (with_control p (met low p.control))) f ≡ offer_at p f
-  offer_met Groups = refl
-  offer_met Flow = refl
-  offer_met Applications = refl
+  offer_met f = grind arith
 
   machines : (f : Feature) → machine_of (feature_of (step5 p (exchanged low m p)) f) ≡ core.features (settings p) (view p) m f
   machines f = ap machine_of (feature_exchanged f) ∙ machine_stepped f m.ack p.control.seq (m.has f) (feature_of p f) _ refl

@@ -2,8 +2,10 @@
 use Rattle.std.specs.Prelude.{ℕ, zero, suc, ◌+◌, ◌-◌, ◌≤◌, ◌<◌, ◌≡◌, refl, Bool, true, false, not, List, [], ◌∷◌, length, get_or, take, ltb, leb, position, Option, Some, None, is_none, MatchOption, IfSome, if◌then◌else◌}
 use Rattle.std.proofs.Common.{arith, sym, ap, ◌∙◌, length-take-le, get_or-take}
 use Rattle.std.specs.List.{position_from}
+use Rattle.std.specs.Option.{unwrap_or}
 use Rattle.std.proofs.lemmas.Iterator.Adapters.{position_from-zero}
 use Rattle.std.proofs.lemmas.Bool.Decides.{nat_tests}
+use Rattle.std.proofs.Math.Bool.{not-not}
 use Rattle.std.proofs.lemmas.Bool.{false≢true}
 use borrow.Author.Tests.{ltb-true, ltb-false}
 use Rattle.octets.specs.Words.{◌below◌}
@@ -86,16 +88,21 @@ first_within (suc n) i test = here (test i) refl (first_within n (i + 1) test)
 
 -- ---- entries
 
-not_not : (b : Bool) → b ≡ not (not b)
-not_not true = refl
-not_not false = refl
+-- a name is new exactly where the first entry that has it is that entry itself
+pub new_is : (p : List ℕ) (i : ℕ) → new_name p i ≡ not (first_entry p i below i)
+unfolding new_name first_entry other_entry
+new_is p i = sym (all_pass i 0 (other_entry p i)) ∙ by (first_not i 0 (other_entry p i)) (first_within i 0 (other_entry p i))
+  where
+    by : (o : Option ℕ) → IfSome o (λ j. j < 0 + i) → is_none o ≡ not (unwrap_or o i below i)
+    by None h = grind (arith, nat_tests)
+    by (Some j) h = grind (arith, nat_tests)
 
 module _ (p : List ℕ) where
   pub foreign_searched : position (λ e. not (is_ours e 0)) (entries p) ≡ foreign_entry p
   unfolding foreign_entry
   foreign_searched =
       entries_searched p (λ e. not (is_ours e 0)) (is_ours p)
-      (λ i h. sym (own_same (entry_is p [] h)) ∙ not_not (is_ours (get_or (entries p) i []) 0))
+      (λ i h. sym (own_same (entry_is p [] h)) ∙ sym (not-not (is_ours (get_or (entries p) i []) 0)))
 
   pub foreign_within : IfSome (foreign_entry p) (λ i. i < entry_count p)
   unfolding foreign_entry
@@ -138,14 +145,14 @@ module _ {p : List ℕ} {es : List (List ℕ)} {i : ℕ} (s : Seeking p i) (all 
         ∙ list_searched (take i es) [] (λ o. same_name (get_or es i []) 0 o 0) i (λ j. not (same_name p i p j)) (length-take-le i es (omega arith))
         (λ j k. rw (get_or-take i es j [] k) (ap not (sym (name_same (met_is p all m) (met_is p all (omega arith))))))
 
-    new_is : new_name p i ≡ is_none r
+    new_here : new_name p i ≡ is_none r
     unfolding new_name other_entry
-    new_is = sym (all_pass i 0 (λ j. not (same_name p i p j))) ∙ ap is_none (sym before)
+    new_here = sym (all_pass i 0 (λ j. not (same_name p i p j))) ∙ ap is_none (sym before)
 
     pub seeking_found : {j : ℕ} → r ≡ Some j → Some (Fault.Again (j + 1) (i + 1)) ≡ again p
     unfolding again first_entry
     seeking_found {j} q =
-        let b : new_name p i ≡ false = new_is ∙ ap is_none q in
+        let b : new_name p i ≡ false = new_here ∙ ap is_none q in
         let f : Some i ≡ second_entry p = rw b at (seeking_here s (met_within p all m)) in
         let g : first_entry p i ≡ j = rw (← before, q) refl in
         rw (← f, g) refl
@@ -153,7 +160,7 @@ module _ {p : List ℕ} {es : List (List ℕ)} {i : ℕ} (s : Seeking p i) (all 
     pub seeking_more : r ≡ None → Seeking p (i + 1)
     seeking_more q =
         let h : i < entry_count p = met_within p all m in
-        let b : new_name p i ≡ true = new_is ∙ ap is_none q in
+        let b : new_name p i ≡ true = new_here ∙ ap is_none q in
         record { within = omega arith; left = rw b at (seeking_here s h) }
 
   pub seeking_end : length es ≤ i → None ≡ again p

@@ -1,5 +1,5 @@
 -- The reasons of a feature's state, in document 01's words; and told apart by a number.
-use Rattle.std.specs.Prelude.{ℕ}
+use Rattle.std.specs.Prelude.{ℕ, List, codes}
 use Prim.Native.String.{String}
 use Rattle.feature.specs.declared.Reason.{Reason}
 use Rattle.feature.specs.declared.Reason.TheVariants.{NoPeerYet, NotAdvertised, Absent, Duplicate, Bad, Waiting, Disabled, Agreed, NotCompatible, ControlTwice}
@@ -15,6 +15,19 @@ reason_word Disabled = "disabled"
 reason_word Agreed = "agreed"
 reason_word NotCompatible = "not compatible"
 reason_word ControlTwice = "control twice"
+
+-- the name of each as it is printed, as docs/FORMATS.md gives it
+abbrev pub reason_name : Reason → List ℕ
+reason_name NoPeerYet = codes "no-peer-yet"
+reason_name NotAdvertised = codes "not-advertised"
+reason_name Absent = codes "absent"
+reason_name Duplicate = codes "duplicate"
+reason_name Bad = codes "bad"
+reason_name Waiting = codes "waiting"
+reason_name Disabled = codes "disabled"
+reason_name Agreed = codes "agreed"
+reason_name NotCompatible = codes "not-compatible"
+reason_name ControlTwice = codes "control-twice"
 
 -- Document 01 gives the reasons no numbers: these are ours, for the code that tells two reasons apart.
 abbrev pub reason_number : Reason → ℕ

@@ -1,9 +1,9 @@
 // One feature: its setting, its state by their parts, and the outcome rules that all three features share.
 #![tactic(auto)]
 
-ghost use Rattle.std.specs.Prelude.{◌≡◌, Bool, true};
+ghost use Rattle.std.specs.Prelude.{◌≡◌, Bool, Some, true};
 ghost use Rattle.parameters.specs.Parameters.{content, no_parameters, valid};
-ghost use Rattle.feature.specs.Reasons.{reason_number};
+ghost use Rattle.feature.specs.Reasons.{reason_name, reason_number};
 ghost use Rattle.feature.specs.Outcome.{configuration, outcome, parameters_held, parameters_of, with_peer, without_peer};
 ghost use Rattle.feature.specs.OutcomeLaws.{Answers, decided, flags_of, judged_on, judged_with, outcome_of, peer_flags, peer_of, peer_with, switches_of};
 
@@ -47,6 +47,8 @@ impl From<Reason> for u8 {
 
 // The name of a reason in every answer that is printed (docs/FORMATS.md).
 impl fmt::Display for Reason {
+    ghost output = { λ r. Some (reason_name r) };
+
     fn fmt<W: fmt::Write>(&self, f: &mut fmt::Formatter<W>) -> fmt::Result {
         f.write_str(match self {
             Reason::NoPeerYet => "no-peer-yet",
@@ -137,6 +139,7 @@ pub struct Release {
     pub error: bool,
 }
 
+// The switches of a setting.
 impl From<Setting> for Switches {
     ghost from_gives = { λ s w. w ≡ switches_of s };
 
@@ -149,6 +152,7 @@ impl From<Setting> for Switches {
     }
 }
 
+// The flags of what is held of a peer.
 impl From<Peer> for Flags {
     ghost from_gives = { λ p w. w ≡ peer_flags p };
 

@@ -42,6 +42,7 @@ fn bit(w: &[u8]) -> Option<usize>
     }
 }
 
+// hex2 and hex4 stand apart: one function of the length would walk over one pair or two, which is no plainer.
 #[tactic(auto, unfolding(crate::specs::Fields::field_number))]
 fn hex2(w: &[u8]) -> Option<usize>
     ensures { result ≡ field_number Field.Hex2 w.now }
@@ -52,6 +53,7 @@ fn hex2(w: &[u8]) -> Option<usize>
     Some(usize::from(words::pair_at(w, 0)))
 }
 
+// Two pairs. One function with `hex2` would need a loop, and a definition by recursion.
 #[tactic(auto, unfolding(crate::specs::Fields::field_number))]
 fn hex4(w: &[u8]) -> Option<usize>
     ensures { result ≡ field_number Field.Hex4 w.now }

@@ -95,12 +95,13 @@ same_setting s t =
     beq s.advertise t.advertise && beq s.enable t.enable && beq s.willing t.willing
     && same_parameters s.desired t.desired
 
--- "if Advertise stays true, a held peer goes through outcome rules 6 to 9 again, and without one the reason, Error and mode stay
--- and OperCfg = DesiredCfg. If Advertise stays false, OperCfg = DesiredCfg and mode = enable, nothing else."
+-- a feature that stays advertised, by the peer that is held, or none
 abbrev pub again_with : Feature → Setting → Outcome → Option Peer → Outcome
 again_with f s o (Some p) = judged f s o.oper p
 again_with f s o None = record { reason = o.reason; oper = o.oper; error = o.error; mode = o.mode; peer = o.peer; adopts = false }
 
+-- "if Advertise stays true, a held peer goes through outcome rules 6 to 9 again, and without one the reason, Error and mode stay
+-- and OperCfg = DesiredCfg. If Advertise stays false, OperCfg = DesiredCfg and mode = enable, nothing else."
 unfoldable pub judged_again : Feature → Setting → Outcome → Outcome
 judged_again f s o =
     if not s.advertise then

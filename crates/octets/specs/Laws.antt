@@ -1,9 +1,8 @@
 -- Laws of octets and of lists that several crates use. Assumes nothing.
 use Rattle.std.specs.Cmp.Lexicographic.{pointwise}
 use borrow.Rule.Slice.PartMut.{put_mid}
-use Rattle.std.specs.Prelude.{nat_eq, ◌/◌, ◌%◌, ℕ, suc, ◌+◌, ◌≤◌, ◌<◌, ◌≡◌, refl, Bool, true, false, ◌&&◌, List, [], ◌∷◌, ◌++◌, set, take}
-use Rattle.std.proofs.Common.{arith, add-zero, add-suc, suc-add, ap, ◌∙◌, length-set, length-take-le, take-suc, take_all, eq-eqb, eqb-true}
-use Rattle.std.proofs.Math.Numerals.{add-one}
+use Rattle.std.specs.Prelude.{nat_eq, ◌/◌, ◌%◌, ℕ, suc, ◌+◌, ◌≤◌, ◌≡◌, refl, Bool, true, false, ◌&&◌, List, [], ◌∷◌, ◌++◌, set}
+use Rattle.std.proofs.Common.{arith, add-zero, add-suc, suc-add, ap, ◌∙◌, take_all, eq-eqb, eqb-true}
 use Rattle.std.proofs.Math.Path.{sym}
 use Rattle.std.proofs.Math.ListN.{length, get_or-eq_default}
 use Rattle.std.proofs.lemmas.List.Edits.{sets, sets-eq}
@@ -70,29 +69,6 @@ pub sets_append : (l : List ℕ) (i : ℕ) (vs ws : List ℕ) → sets l i (vs +
 sets_append l i [] ws = ap (λ (k : ℕ). sets l k ws) (sym (add-zero i))
 sets_append l i (a ∷ vs) ws =
     sets_append (set l i a) (suc i) vs ws ∙ ap (λ (k : ℕ). sets (sets (set l i a) (suc i) vs) k ws) (suc-add i (length vs) ∙ sym (add-suc i (length vs)))
-
--- the first i octets of s stand at a place of the output
-pub record Putting (before out s : List ℕ) (place i : ℕ) : Type 0 where
-  pub below : i ≤ length s
-  pub room : place + length s ≤ length before
-  pub long : length out ≡ length before
-  pub now : out ≡ sets before place (take i s)
-
-pub putting_start : {out s : List ℕ} {place : ℕ} → place + length s ≤ length out → Putting out out s place 0
-putting_start h = record { below = omega arith; room = h; long = refl; now = refl }
-
-pub putting_more : {before out s : List ℕ} {place i : ℕ} → Putting before out s place i → i < length s → Putting before (set out (place + i) (at s i)) s place (i + 1)
-putting_more {before} {out} {s} {place} {i} p h =
-    let n : length (take i s) ≡ i = length-take-le i s (omega arith) in
-    record {
-      below = omega arith;
-      room = p.room;
-      long = length-set out (place + i) (at s i) ∙ p.long;
-      now = rw (add-one, take-suc s i 0 h, sets_append, n, ← p.now) refl;
-    }
-
-pub putting_end : {before out s : List ℕ} {place i : ℕ} → Putting before out s place i → length s ≤ i → out ≡ sets before place s
-putting_end {before} {out} {s} {place} {i} p h = rw (take_all i s h) at p.now
 
 -- what a copy into a part leaves
 pub put_in : (out s now : List ℕ) (i n : ℕ) → i + length s ≤ length out → n ≡ length s → now ≡ s → put_mid i n out now ≡ sets out i s

@@ -1,7 +1,7 @@
-// Octets: one at a place, widened; big-endian numbers; equality of two runs.
+// Octets: one at a place; big-endian numbers; equality of two runs; the first ones and those behind.
 #![tactic(auto)]
 
-ghost use Rattle.std.specs.Prelude.{◌≡◌, ◌<◌, take, drop};
+ghost use Rattle.std.specs.Prelude.{◌≡◌, take, drop};
 ghost use Rattle.octets.specs.Octets.{at, same};
 
 pub mod numbers;
@@ -11,13 +11,6 @@ pub fn octet(s: &[u8], i: usize) -> u8
     ensures { result ≡ at s.now i }
 {
     s.get(i).copied().unwrap_or(0)
-}
-
-// An octet as a length or a place.
-pub fn wide(x: u8) -> usize
-    ensures { (result ≡ x) × (result < 256) }
-{
-    x as usize
 }
 
 // Whether two runs of octets are the same.

@@ -4,7 +4,7 @@ ghost use Rattle.std.proofs.lemmas.List.Edits.{sets};
 ghost use Rattle.octets.specs.Octets.{number4, octets4};
 
 // The number at `at`; octets past the end count as 0. The caller's places are below a million, so that
-// the sum cannot wrap: hence the `requires`.
+// `at + 3` cannot wrap: hence the `requires`.
 pub fn number4(s: &[u8], at: usize) -> u32
     requires { at ≤ 1000000 }
     ensures { result ≡ number4 s.now at }

@@ -1,5 +1,5 @@
 -- 01, TLV layout: the parameters of the three features. They are the octets behind a sub-TLV's first four.
-use Rattle.std.specs.Prelude.{ℕ, zero, suc, ◌+◌, ◌-◌, ◌*◌, ◌/◌, ◌%◌, Bool, true, not, ◌&&◌, ◌||◌, List, [], ◌∷◌, ◌++◌, length, take, drop, replicate, if◌then◌else◌}
+use Rattle.std.specs.Prelude.{ℕ, zero, suc, ◌+◌, ◌-◌, ◌*◌, ◌/◌, ◌%◌, Bool, true, not, ◌&&◌, ◌||◌, List, [], ◌∷◌, ◌++◌, length, take, drop, replicate, codes, if◌then◌else◌}
 use Rattle.octets.specs.Words.{◌below◌, ◌atmost◌, ◌is◌}
 use Rattle.octets.specs.Octets.{at, same, number2}
 use Rattle.parameters.specs.declared.Feature.{Feature}
@@ -11,6 +11,12 @@ unfoldable pub feature_number : Feature → ℕ
 feature_number Groups = 2
 feature_number Flow = 3
 feature_number Applications = 4
+
+-- the name of each, as docs/FORMATS.md gives it
+abbrev pub feature_name : Feature → List ℕ
+feature_name Groups = codes "groups"
+feature_name Flow = codes "flow"
+feature_name Applications = codes "applications"
 
 -- ---- priority groups: "eight 4-bit group numbers, priority 0 in the high half of the first octet; eight percentages; number of classes"
 

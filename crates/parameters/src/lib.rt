@@ -2,8 +2,8 @@
 // applications and those of any feature are crates `applications` and `config`.
 #![tactic(auto)]
 
-ghost use Rattle.std.specs.Prelude.{◌≡◌};
-ghost use Rattle.parameters.specs.Parameters.{content, feature_number, stored};
+ghost use Rattle.std.specs.Prelude.{◌≡◌, Some};
+ghost use Rattle.parameters.specs.Parameters.{content, feature_name, feature_number, stored};
 ghost use Rattle.parameters.specs.Features.{Numbers, of_feature};
 
 use std::fmt;
@@ -38,6 +38,7 @@ impl From<Feature> for u8 {
 #[derive(Clone, Copy, Debug, PartialEq, Eq)]
 pub struct UnknownFeature;
 
+// The feature with a number.
 #[tactic(auto, unfolding(crate::specs::Parameters::feature_number))]
 impl TryFrom<u8> for Feature {
     type Error = UnknownFeature;
@@ -56,6 +57,8 @@ impl TryFrom<u8> for Feature {
 
 // The name of a feature in every answer that is printed (docs/FORMATS.md).
 impl fmt::Display for Feature {
+    ghost output = { λ f. Some (feature_name f) };
+
     fn fmt<W: fmt::Write>(&self, f: &mut fmt::Formatter<W>) -> fmt::Result {
         f.write_str(match self {
             Feature::Groups => "groups",

@@ -64,11 +64,11 @@ fn holds(f: Feature, p: &[u8], held: &[u8]) -> bool
 
 // Whether the value of a sub-TLV is what is held of the peer, at the version in force.
 #[tactic(auto, unfolding(crate::specs::Repeating::repeats_held, crate::specs::Repeating::repeats_peer))]
-fn repeats_held(f: Feature, x: State, value: &[u8]) -> bool
-    ensures { result ≡ repeats_held f x value.now }
+fn repeats_held(f: Feature, x: &State, value: &[u8]) -> bool
+    ensures { result ≡ repeats_held f x.now value.now }
 {
     let oper = x.outcome.oper;
-    let Some(q) = x.outcome.peer else {
+    let Some(q) = &x.outcome.peer else {
         return false;
     };
     if value.len() < 4 {
@@ -88,9 +88,9 @@ fn repeats_held(f: Feature, x: State, value: &[u8]) -> bool
 
 // Whether a frame brings of a feature what is held; of one that is not advertised nothing is taken.
 #[tactic(auto, unfolding(crate::specs::Repeating::repeats_in))]
-fn repeats_feature(f: Feature, x: State, s: &[u8], found: Found) -> bool
+fn repeats_feature(f: Feature, x: &State, s: &[u8], found: Found) -> bool
     requires { found.start + found.length ≤ length s.now }
-    ensures { result ≡ repeats_in f x found.count (value_of s.now found) }
+    ensures { result ≡ repeats_in f x.now found.count (value_of s.now found) }
 {
     if !x.setting.advertise {
         return true;
@@ -103,24 +103,24 @@ fn repeats_feature(f: Feature, x: State, s: &[u8], found: Found) -> bool
 
 // Whether it brings of each feature what is held: the shortest first, and left at the first that differs.
 #[tactic(auto, unfolding(crate::specs::Repeating::repeats_all))]
-fn repeats_all(p: Port, s: &[u8], c: Contents) -> bool
+fn repeats_all(p: &Port, s: &[u8], c: Contents) -> bool
     requires { Inside s.now c }
-    ensures { result ≡ repeats_all s.now c p }
+    ensures { result ≡ repeats_all s.now c p.now }
 {
-    if !repeats_feature(Feature::Flow, p.flow, s, c.flow) {
+    if !repeats_feature(Feature::Flow, &p.flow, s, c.flow) {
         return false;
     }
-    if !repeats_feature(Feature::Groups, p.groups, s, c.groups) {
+    if !repeats_feature(Feature::Groups, &p.groups, s, c.groups) {
         return false;
     }
-    repeats_feature(Feature::Applications, p.applications, s, c.applications)
+    repeats_feature(Feature::Applications, &p.applications, s, c.applications)
 }
 
 // What a frame that is accepted repeats.
 #[tactic(auto, unfolding(crate::specs::Repeating::repeat_in, crate::specs::Repeating::is_exchange))]
-fn repeat_in(p: Port, s: &[u8], c: Contents) -> Option<Repetition>
+fn repeat_in(p: &Port, s: &[u8], c: Contents) -> Option<Repetition>
     requires { Inside s.now c }
-    ensures { result ≡ repeat_in s.now c p }
+    ensures { result ≡ repeat_in s.now c p.now }
 {
     let old = p.control;
     let h = admission::hear(s, c, old);
@@ -139,10 +139,10 @@ fn repeat_in(p: Port, s: &[u8], c: Contents) -> Option<Repetition>
 
 // Whether the port with a number takes frames, and each of its features is Syncd.
 #[tactic(auto, unfolding(crate::specs::Repeating::none_waits))]
-fn none_waits(n: u8, p: Port) -> bool
-    ensures { result ≡ none_waits n p }
+fn none_waits(n: u8, p: &Port) -> bool
+    ensures { result ≡ none_waits n p.now }
 {
-    let takes = logging::is_port(n) & port::writing::running(p) & !p.several;
+    let takes = logging::is_port(n) & port::writing::running(*p) & !p.several;
     takes & p.groups.syncd & p.flow.syncd & p.applications.syncd
 }
 
@@ -151,8 +151,8 @@ fn none_waits(n: u8, p: Port) -> bool
 // and `wish` is the answer (proofs/Reachable: `reachable_repeats`), so that no port need be made or stored. It does not call
 // `admission::admit`, which with two callers would be called out of line, with a copy of the port.
 #[tactic(auto, unfolding(crate::specs::Repeating::repeat_of, crate::specs::Repeating::repeat_given))]
-pub fn repeat(n: u8, p: Port, s: &[u8]) -> Option<Repetition>
-    ensures { result ≡ repeat_of n p s.now }
+pub fn repeat(n: u8, p: &Port, s: &[u8]) -> Option<Repetition>
+    ensures { result ≡ repeat_of n p.now s.now }
 {
     if !none_waits(n, p) {
         return None;

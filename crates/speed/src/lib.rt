@@ -70,7 +70,7 @@ fn made(creation: &[u8]) -> Port {
 
 // Handles a frame at port `n`, where the port and the log stand.
 fn handle(n: u8, p: &mut Port, l: &mut Log, frame: &[u8]) -> u64 {
-    if let Some(k) = repeating::repeat(n, *p, frame) {
+    if let Some(k) = repeating::repeat(n, p, frame) {
         p.control = k.control;
         return u64::from(k.wish);
     }

@@ -29,7 +29,7 @@ use Rattle.events.specs.PortEvents.{event, unchanged, refused}
 use Rattle.changes.specs.Changes.{with_feature, with_setting, setting_changed, set_to, changed_feature, changed_applications, changed_setting}
 use Rattle.admission.specs.Admission.{Message, met, with_broken}
 use Rattle.handling.specs.Handling.{exchanged, once}
-use Rattle.invariants.proofs.Tests.{or_cases}
+use Rattle.invariants.proofs.Tests.{beq_not, or_cases}
 use Rattle.invariants.proofs.Fresh.{Alike, sent_alike, runs_alike, fresh_setting}
 
 pub next_other : (n : ℕ) → next n ≡ n → ⊥
@@ -90,29 +90,15 @@ module _ (p : Port) where
 
   pub sent_feature : (f : Feature) → feature_of (sent p) f ≡ feature_of p f
   unfolding sent
-  sent_feature = by (raises_seq_no p)
-    where
-      by : (b : Bool) (f : Feature) → feature_of (if b then up else p) f ≡ feature_of p f
-      by true Groups = refl
-      by true Flow = refl
-      by true Applications = refl
-      by false f = refl
+  sent_feature f = grind arith
 
   pub sent_rcvd : (sent p).control.rcvd ≡ p.control.rcvd
   unfolding sent
-  sent_rcvd = by (raises_seq_no p)
-    where
-      by : (b : Bool) → (if b then up else p).control.rcvd ≡ p.control.rcvd
-      by true = refl
-      by false = refl
+  sent_rcvd = grind arith
 
   pub sent_ack : (sent p).control.ack ≡ p.control.ack
   unfolding sent
-  sent_ack = by (raises_seq_no p)
-    where
-      by : (b : Bool) → (if b then up else p).control.ack ≡ p.control.ack
-      by true = refl
-      by false = refl
+  sent_ack = grind arith
 
   acknowledged_now : raises_seq_no p ≡ true → p.control.rcvd ≡ p.control.seq
   unfolding raises_seq_no
@@ -127,9 +113,7 @@ module _ (p : Port) where
       by false e = inl refl
 
 step5_feature : (p q : Port) (f : Feature) → feature_of (step5 p q) f ≡ marked f q.control.seq (feature_of p f) (feature_of q f)
-step5_feature p q Groups = refl
-step5_feature p q Flow = refl
-step5_feature p q Applications = refl
+step5_feature p q f = grind arith
 
 module _ (p q : Port) (same : q.control.seq ≡ p.control.seq)
     (keeps : (f : Feature) → changed f (feature_of p f) (feature_of q f) ≡ false → Keeps p.control.seq q.control.rcvd (feature_of p f) (feature_of q f)) where
@@ -263,13 +247,7 @@ module _ (f : Feature) (seq rcvd : ℕ) (s : Setting) (x : State) where
       by : (b : Bool) → beq x.setting.advertise s.advertise ≡ b → (let y : State =
           if b then record { max = x.max; setting = s; outcome = judged_again f s x.outcome; syncd = x.syncd; sequence = x.sequence } else anew in
           changed f x y ≡ false → Keeps seq rcvd x y)
-      by true e d = record { advertised = sym (same_bool x.setting.advertise s.advertise e); sequence = refl; syncd = λ e. inl e }
-        where
-          same_bool : (a b : Bool) → beq a b ≡ true → a ≡ b
-          same_bool true true e = refl
-          same_bool true false e = absurd (false≢true e)
-          same_bool false true e = absurd (false≢true e)
-          same_bool false false e = refl
+      by true e d = record { advertised = sym (beq_not x.setting.advertise s.advertise (ap not e)); sequence = refl; syncd = λ e. inl e }
       by false e d =
           absurd
           (false≢true

@@ -3,17 +3,15 @@ use Prim.Native.Nat.{ℕ}
 use native.Mathlib.Omega.{arith}
 use mathlib.Core.Path.{◌≡◌, refl, sym, ap, ◌∙◌}
 use mathlib.Core.Logic.{◌⊎◌, inl, inr}
-use mathlib.Core.Bool.{Bool, true, false, false≢true}
+use mathlib.Core.Bool.{true, false, false≢true}
 use mathlib.Core.Option.{none}
 use Rattle.parameters.specs.declared.Feature.{Feature}
-use Rattle.parameters.specs.declared.Feature.TheVariants.{Groups, Flow, Applications}
 use Rattle.feature.specs.declared.Setting.{Setting}
 use Rattle.feature.specs.declared.State.{State}
 use Rattle.machine.specs.State.{next, fresh_at, fresh}
 use Rattle.port.specs.declared.Port.{Port}
 use Rattle.port.specs.Parts.{feature_of}
 use Rattle.sending.specs.Sending.{sent, fresh_parts, fresh_port}
-use Rattle.invariants.proofs.Fresh.{fresh_setting}
 use Rattle.invariants.proofs.Waiting.{fresh_in_step}
 use Rattle.exchange.specs.Demand3.{JustStarted}
 use Rattle.ticks.proofs.Events.{sent_feature, sent_rcvd, sent_ack, sent_seq}
@@ -23,19 +21,11 @@ use Rattle.ticks.proofs.Given.{Up}
 module _ (max : ℕ) (s : Setting) where
   fresh_sequence : (fresh max s).sequence ≡ 1
   unfolding fresh_at
-  fresh_sequence = by s.advertise refl
-    where
-      by : (b : Bool) → s.advertise ≡ b → (fresh max s).sequence ≡ 1
-      by true a = rw a refl
-      by false a = rw a refl
+  fresh_sequence = grind arith
 
   fresh_syncd : (fresh max s).setting.advertise ≡ true → (fresh max s).syncd ≡ false
   unfolding fresh_at
-  fresh_syncd = by s.advertise refl
-    where
-      by : (b : Bool) → s.advertise ≡ b → (fresh max s).setting.advertise ≡ true → (fresh max s).syncd ≡ false
-      by true a e = rw a refl
-      by false a e = absurd (false≢true (sym a ∙ sym (ap (λ (t : Setting). t.advertise) (fresh_setting 1 max s)) ∙ e))
+  fresh_syncd e = grind arith
 
 pub record Begins (p : Port) : Type 0 where
   pub rcvd : p.control.rcvd ≡ 0
@@ -44,9 +34,7 @@ pub record Begins (p : Port) : Type 0 where
   pub feature : (f : Feature) → feature_of p f ≡ fresh (feature_of p f).max (feature_of p f).setting
 
 parts_feature : (p : Port) (f : Feature) → feature_of (fresh_parts p) f ≡ fresh (feature_of p f).max (feature_of p f).setting
-parts_feature p Groups = refl
-parts_feature p Flow = refl
-parts_feature p Applications = refl
+parts_feature p f = grind arith
 
 module _ (p : Port) (h : JustStarted p) where
   is_sent_lem : p ≡ sent (fresh_parts p)

@@ -1,6 +1,6 @@
 -- 01, Refusal numbers: the table, and 02, E10: "ports are 1 to 4, and any other number gives refusal 16". The order of its cases is the
 -- order of the numbers.
-use Rattle.std.specs.Prelude.{ℕ, List, []}
+use Rattle.std.specs.Prelude.{ℕ, List, [], codes}
 use Rattle.tlv.specs.declared.Refusal.{Refusal}
 use Rattle.tlv.specs.declared.Rejection.{Rejection}
 use Rattle.tlv.specs.declared.Refusal.TheVariants.{NotRunning, SeveralNeighbours, NotDcbx, WrongLength, PastEnd, NoControl, ControlLength, ControlVersion, InvalidSetting, ShortOutput, UnknownFeature, NoNotice, NoPort}
@@ -19,6 +19,22 @@ refusal_number ShortOutput = 10
 refusal_number UnknownFeature = 11
 refusal_number NoNotice = 12
 refusal_number NoPort = 16
+
+-- the name of each, as docs/FORMATS.md gives it
+abbrev pub refusal_name : Refusal → List ℕ
+refusal_name NotRunning = codes "not-running"
+refusal_name SeveralNeighbours = codes "several-neighbours"
+refusal_name NotDcbx = codes "not-dcbx"
+refusal_name WrongLength = codes "frame-length"
+refusal_name PastEnd = codes "past-the-end"
+refusal_name NoControl = codes "no-control"
+refusal_name ControlLength = codes "control-length"
+refusal_name ControlVersion = codes "control-version"
+refusal_name InvalidSetting = codes "invalid-setting"
+refusal_name ShortOutput = codes "no-room"
+refusal_name UnknownFeature = codes "no-feature"
+refusal_name NoNotice = codes "no-notice"
+refusal_name NoPort = codes "no-port"
 
 -- An answer in document 01's numbers: 0 and the values that stand beside it, or the number of a refusal: "A refusal returns its number
 -- alone". 02, E2: "The reader's refusals 3 to 8 are to carry, beside the number, a place"; all else has place 0.

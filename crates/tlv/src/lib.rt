@@ -1,9 +1,9 @@
 // The DCBX TLV: its fixed octets, the heads of its sub-TLVs, and the numbers of refusals.
 #![tactic(auto)]
 
-ghost use Rattle.std.specs.Prelude.{◌≡◌, ◌+◌, ◌*◌, ◌%◌, ◌<◌, ◌≤◌, length};
+ghost use Rattle.std.specs.Prelude.{◌≡◌, ◌+◌, ◌*◌, ◌%◌, ◌<◌, ◌≤◌, Some, length};
 ghost use Rattle.std.proofs.lemmas.List.Edits.{sets};
-ghost use Rattle.tlv.specs.Refusals.{refusal_number, rejection};
+ghost use Rattle.tlv.specs.Refusals.{refusal_name, refusal_number, rejection};
 ghost use Rattle.tlv.specs.Layout.{head_at, is_dcbx, frame_head};
 ghost use Rattle.tlv.specs.Revisions.{has_applications};
 
@@ -40,7 +40,7 @@ pub enum Refusal {
     NoPort,
 }
 
-// What stands at a place of the TLV.
+// What stands at a place of the TLV: three outcomes, where an Option or a Result has two.
 #[derive(Clone, Copy)]
 pub enum Head {
     // Nothing: the octets end here.
@@ -81,6 +81,8 @@ impl From<Refusal> for u8 {
 
 // The name of a refusal in every answer that is printed (docs/FORMATS.md).
 impl fmt::Display for Refusal {
+    ghost output = { λ r. Some (refusal_name r) };
+
     fn fmt<W: fmt::Write>(&self, f: &mut fmt::Formatter<W>) -> fmt::Result {
         f.write_str(match self {
             Refusal::NotRunning => "not-running",

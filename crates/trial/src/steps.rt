@@ -233,7 +233,7 @@ fn repeated(p: Port, k: Repetition) -> Event {
 
 // A frame. Where it repeats what is held it takes that way, so that the comparison runs over both.
 fn frame(n: u8, p: Port, octets: &[u8]) -> Event {
-    match repeating::repeat(n, p, octets) {
+    match repeating::repeat(n, &p, octets) {
         Some(k) => repeated(p, k),
         None => recorder::apply(n, p, Change::Frame, octets),
     }

@@ -177,24 +177,6 @@ module _ (f : Feature) (r : Received) (rcvd seq : ℕ) (x : State) (c : Course) 
 
 -- ---- the parameters
 
-module _ (x : State) (c : Course) where
-  pub keeps_withheld : not x.setting.advertise ≡ true → true ≡ keeps_by c x
-  unfolding keeps_by
-  keeps_withheld a = simp a
-
-  module _ (a : not x.setting.advertise ≡ false) where
-    pub keeps_twice : c ≡ Twice → false ≡ keeps_by c x
-    unfolding keeps_by
-    keeps_twice e = simp (a, e)
-
-    pub keeps_other : c ≡ OtherVersion → true ≡ keeps_by c x
-    unfolding keeps_by
-    keeps_other e = simp (a, e)
-
-    pub keeps_exchange : c ≡ Exchange → false ≡ keeps_by c x
-    unfolding keeps_by
-    keeps_exchange e = simp (a, e)
-
 module _ (f : Feature) (v : List ℕ) (x : State) (c : Course) {b : Bool} (k : b ≡ keeps_by c x) (held : Bool) where
   pub held_kept : b ≡ true → {p : Parameters} → p ≡ parameters_held x.outcome.peer → p ≡ peer_parameters_after c f v held x
   unfolding peer_parameters_after

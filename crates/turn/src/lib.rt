@@ -10,7 +10,8 @@ ghost use Rattle.turn.specs.Turn.{control_twice, acknowledged, received};
 use feature::{Decision, Reason, State};
 use parameters::{Feature, Parameters};
 
-// Which way a frame takes through steps 1 to 4: its control came twice, it runs at another version, or its features are handled.
+// Which way a frame takes through steps 1 to 4: its control came twice, it runs at another version, or its features are handled:
+// three ways, where an Option or a Result has two.
 #[derive(Clone, Copy)]
 pub enum Course {
     Twice,

@@ -17,7 +17,7 @@ pub struct Walk {
     pub control: Control,
 }
 
-// What the head at a walk's place makes of it.
+// What the head at a walk's place makes of it: three outcomes, where an Option or a Result has two.
 #[derive(Clone, Copy)]
 pub enum Step {
     // No sub-TLV is left.
@@ -88,6 +88,7 @@ pub fn walk_on(s: &[u8], base: usize, w: Walk) -> Reading
     let before = w.contents.control;
     let mut contents = w.contents;
     let mut at = w.at - base;
+    // `at` moves by a sub-TLV's length: nothing is counted.
     loop {
         match tlv::head_at(s, at) {
             Head::End => {

@@ -16,9 +16,10 @@ use Rattle.std.proofs.lemmas.List.Sums.{prefix_len-le-length}
 use Rattle.std.proofs.Math.ListN.{length}
 use Rattle.std.proofs.lemmas.List.{length-replicate, set_at}
 use Rattle.std.proofs.Math.Seq.{append_snoc, take-append_seam}
-use borrow.Author.Tests.{le-leb, lt-leb, eqb-true, eqb-false}
+use borrow.Author.Tests.{leb-true, le-leb, lt-leb, eqb-true, eqb-false}
 use Rattle.octets.specs.Words.{◌below◌, ◌atmost◌, ◌is◌}
 use Rattle.octets.specs.Octets.{at}
+use Rattle.octets.specs.Laws.{and_left}
 use Rattle.words.specs.declared.Held.{Held}
 use Rattle.words.specs.Text.{is_digit, decimal_digits, decimal_from, decimal, is_number, number, nibble, hex_digits, pair_at, listed, octets_of, held, pending}
 use Rattle.words.specs.StepsLaws.{run, trimmed, first_word, rest, Nibbles}
@@ -28,6 +29,10 @@ use Rattle.words.specs.StepsLaws.{run, trimmed, first_word, rest, Nibbles}
 pub ascii_digit : (c : ℕ) {b : Bool} → b ≡ is_ascii_digit c → b ≡ is_digit c
 unfolding is_digit
 ascii_digit c e = e
+
+pub digit_least : (c : ℕ) → is_digit c ≡ true → 48 ≤ c
+unfolding is_digit
+digit_least c e = leb-true 48 c (and_left (48 atmost c) (c atmost 57) e)
 
 -- ---- a run of spaces, or of other octets: it ends at the first octet that is not of it
 
@@ -186,6 +191,11 @@ module _ {f : ℕ → ℕ} {n : ℕ} {out : List ℕ} {i : ℕ} where
 pub octets_end : (w : List ℕ) {n : ℕ} {out : List ℕ} {i : ℕ} → Listing (pair_at w) n out i → n ≤ i → n ≡ min (length w / 2) 513 → record { n = n; octets = out } ≡ held 513 (octets_of w)
 unfolding octets_of
 octets_end w r h e = listing_end r h ∙ rw e
+
+-- how many octets a text spells
+pub octets_length : (w : List ℕ) {n : ℕ} → n ≡ min (length w / 2) 513 → n ≡ length (octets_of w)
+unfolding octets_of
+octets_length w e = e ∙ sym (length-listed (min (length w / 2) 513) 0 (pair_at w))
 
 -- ---- what is held, read back
 

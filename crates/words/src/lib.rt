@@ -14,7 +14,7 @@ const DIGITS: usize = 5;
 // A longer line cannot be read.
 pub const LONGEST: usize = 1100;
 
-// Octets in memory of a fixed size: the first `n` count, and those past them are zero.
+// Octets in memory of a fixed size: the first `n` count. Those past them are zero in each that `held` in specs/ makes: so say the contracts.
 #[derive(Clone, Copy, Debug, PartialEq, Eq)]
 pub struct Held<const N: usize> {
     pub n: usize,
