@@ -117,7 +117,7 @@ pub trait Lines {
 }
 
 // Takes the lines that end in `s`. The first of them began before `s`, and is `front` as a whole. Answers the place behind the
-// last line feed. A `while`, since a step is as long as a line.
+// last line feed.
 pub fn pass_lines<'a, T: Lines>(t: &mut T, front: &'a [u8], s: &'a [u8]) -> usize
     ensures { Passes T.with_line t.old front.now s.now t.new result }
 {

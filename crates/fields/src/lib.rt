@@ -53,7 +53,6 @@ fn hex2(w: &[u8]) -> Option<usize>
     Some(usize::from(words::pair_at(w, 0)))
 }
 
-// Two pairs. One function with `hex2` would need a loop, and a definition by recursion.
 #[tactic(auto, unfolding(crate::specs::Fields::field_number))]
 fn hex4(w: &[u8]) -> Option<usize>
     ensures { result ≡ field_number Field.Hex4 w.now }
