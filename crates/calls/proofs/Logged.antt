@@ -1,5 +1,4 @@
 -- The log over any list of calls from the blank recorder on. Assumes nothing.
-use Rattle.parameters.specs.declared.Feature.{Feature}
 use Prim.Native.Nat.{ℕ, ◌+◌}
 use native.Mathlib.Omega.{arith}
 use mathlib.Core.Path.{◌≡◌, refl, sym, ap, ◌∙◌}
@@ -7,7 +6,7 @@ use mathlib.Core.Bool.{Bool, true, false, not, ◌&&◌, false≢true}
 use mathlib.Core.List.{List, [], ◌∷◌, ◌++◌, map, append-nil}
 use lib.ListN.{set}
 use borrow.Author.Tests.{ne_eqb, eqb-true, eqb-false, not-true}
-use Rattle.std.specs.Prelude.{if◌then◌else◌, None, Some, Option}
+use Rattle.std.specs.Prelude.{if◌then◌else◌, None, Some}
 use Rattle.octets.specs.Words.{◌is◌}
 use Rattle.octets.specs.Laws.{and_left, and_right}
 use Rattle.tlv.specs.Refusals.{Reply, refusal_number}
@@ -176,7 +175,7 @@ others_append n (p ∷ ps) qs e f =
     rw (and_left (not (port_of p is n)) (others n ps) e) (others_append n ps qs (and_right (not (port_of p is n)) (others n ps) e) f)
 
 module _ (m n : ℕ) (d : m ≡ n → ⊥) where
-  others_listed : (x : Raised) (feature : Option Feature) (rest : List Notice) → others n (map log.write rest) ≡ true → others n (map log.write (listed m x feature rest)) ≡ true
+  others_listed : (x : Raised) (feature : ℕ) (rest : List Notice) → others n (map log.write rest) ≡ true → others n (map log.write (listed m x feature rest)) ≡ true
   unfolding listed others
   others_listed None feature rest e = e
   others_listed (Some k) feature rest e = rw (ne_eqb m n d) e

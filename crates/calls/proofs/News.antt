@@ -1,12 +1,11 @@
 -- Without takings a port's newest 16 notices depend on its own calls alone. Assumes nothing.
-use Rattle.parameters.specs.declared.Feature.{Feature}
 use Prim.Native.Nat.{ℕ}
 use mathlib.Core.Path.{◌≡◌, refl, sym, ap, ◌∙◌}
 use mathlib.Core.Bool.{Bool, true, false, not, ◌&&◌, false≢true}
 use mathlib.Core.List.{List, [], ◌∷◌, ◌++◌}
 use lib.ListN.{length}
 use borrow.Author.Tests.{ne_eqb}
-use Rattle.std.specs.Prelude.{if◌then◌else◌, None, Some, Option}
+use Rattle.std.specs.Prelude.{if◌then◌else◌, None, Some}
 use Rattle.octets.specs.Words.{◌is◌}
 use Rattle.notices.specs.declared.Notice.{Notice}
 use Rattle.notices.specs.Notices.{PortNumber, empty_log, notices_in, of}
@@ -27,7 +26,7 @@ use Rattle.calls.proofs.Logged.{logged}
 -- ---- of port n: what it raised itself
 
 module _ (m n : ℕ) (d : m ≡ n → ⊥) where
-  of_listed : (x : Raised) (feature : Option Feature) (rest : List Notice) → of n rest ≡ [] → of n (listed m x feature rest) ≡ []
+  of_listed : (x : Raised) (feature : ℕ) (rest : List Notice) → of n rest ≡ [] → of n (listed m x feature rest) ≡ []
   unfolding listed of
   of_listed None feature rest e = e
   of_listed (Some k) feature rest e = rw (ne_eqb m n d) e

@@ -341,7 +341,7 @@ module _ (r : Recorder) (n : ℕ) where
   unfolding in_order listed news_of
   news_in_order k p = by (is_broken k) p.control.broken
     where
-      by : (a b : Bool) → in_order n (if a then alone (newly_marked ControlError b true) else silent) ≡ (if a && not b then record { port = n; kind = ControlError; feature = None } ∷ [] else [])
+      by : (a b : Bool) → in_order n (if a then alone (newly_marked ControlError b true) else silent) ≡ (if a && not b then record { port = n; kind = ControlError; feature = 0 } ∷ [] else [])
       by true true = refl
       by true false = refl
       by false b = refl

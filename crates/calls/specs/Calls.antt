@@ -1,7 +1,6 @@
 -- The calls that users make of a recorder, one after the other: what each answers and leaves behind.
 use Rattle.tlv.specs.declared.Refusal.{Refusal}
-use Rattle.parameters.specs.Parameters.{feature_number}
-use Rattle.std.specs.Prelude.{ℕ, Bool, List, [], ◌∷◌, if◌then◌else◌, Ok, Err, Option, Result, None, Some}
+use Rattle.std.specs.Prelude.{ℕ, Bool, List, [], ◌∷◌, if◌then◌else◌, Ok, Err, Result}
 use Rattle.octets.specs.Words.{◌is◌}
 use Rattle.tlv.specs.Refusals.{Reply, done, refusal}
 use Rattle.parameters.specs.declared.Feature.{Feature}
@@ -101,12 +100,8 @@ lent_after r x = lent_at r x.port x.operation
 -- ---- what a call answers, in document 01's numbers
 
 -- "Taking removes the oldest and gives its number and its feature, 0 for a port notice." Its port is the one that was asked.
-abbrev pub feature_or_port : Option Feature → ℕ
-feature_or_port None = 0
-feature_or_port (Some f) = feature_number f
-
 abbrev pub took_reply : Result Notice Refusal → Reply
-took_reply (Ok x) = done (notice_number x.kind ∷ feature_or_port x.feature ∷ [])
+took_reply (Ok x) = done (notice_number x.kind ∷ x.feature ∷ [])
 took_reply (Err why) = refusal why
 
 unfoldable pub reply_at : Recorder → ℕ → Operation → Reply

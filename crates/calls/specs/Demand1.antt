@@ -1,7 +1,7 @@
 -- Demand 1: every call answers; it is refused exactly when the table says and with the number that the table's order gives, and its
 -- place. 01: "A refusal returns its number alone and changes nothing". 02, E1: "Demand 1 and document 01 then read: a refusal changes nothing but
 -- this mark and notice, with what a full log drops for it."
-use Rattle.std.specs.Prelude.{ℕ, ◌≡◌, Bool, false, not, ◌&&◌, ◌||◌, List, [], ◌∷◌, length, set, if◌then◌else◌, None}
+use Rattle.std.specs.Prelude.{ℕ, ◌≡◌, Bool, false, not, ◌&&◌, ◌||◌, List, [], ◌∷◌, length, set, if◌then◌else◌}
 use Rattle.octets.specs.Words.{◌is◌}
 use Rattle.octets.specs.Octets.{same}
 use Rattle.tlv.specs.Refusals.{Reply, done}
@@ -15,7 +15,7 @@ use Rattle.port.specs.Writing as writing
 use Rattle.recorder.specs.declared.Recorder.{Recorder}
 use Rattle.admission.specs.Admission.{with_broken}
 use Rattle.recorder.specs.Recorder.{place_of, port_at}
-use Rattle.calls.specs.Calls.{Operation, create, frame, gone, flag, setting, write, take, Call, event_of, raised, after, after_all, lent, lent_after, reply_of, accepted, feature_or_port}
+use Rattle.calls.specs.Calls.{Operation, create, frame, gone, flag, setting, write, take, Call, event_of, raised, after, after_all, lent, lent_after, reply_of, accepted}
 use Rattle.calls.specs.Rows.{is_frame}
 use Rattle.calls.specs.Table.{first_of, place_beside}
 
@@ -43,7 +43,7 @@ values_at r n gone = asked (port_at r n) (event_of n (port_at r n) gone).port
 values_at r n (flag x on) = asked (port_at r n) (event_of n (port_at r n) (flag x on)).port
 values_at r n (setting number w o) = asked (port_at r n) (event_of n (port_at r n) (setting number w o)).port
 values_at r n (write out) = length (writing.frame (port_at r n)) ∷ []
-values_at r n take = notice_number (oldest_of n r.log).kind ∷ feature_or_port (oldest_of n r.log).feature ∷ []
+values_at r n take = notice_number (oldest_of n r.log).kind ∷ (oldest_of n r.log).feature ∷ []
 
 abbrev pub values_of : Recorder → Call → List ℕ
 values_of r x = values_at r x.port x.operation
@@ -60,7 +60,7 @@ is_broken k = k is 7 || k is 8
 
 -- the notice that number k writes at port n, which is p
 unfoldable pub news_of : ℕ → ℕ → Port → List Notice
-news_of n k p = if is_broken k && not p.control.broken then record { port = n; kind = ControlError; feature = None } ∷ [] else []
+news_of n k p = if is_broken k && not p.control.broken then record { port = n; kind = ControlError; feature = 0 } ∷ [] else []
 
 -- the recorder after an operation at port n was refused with number k: only a frame that came to a port leaves anything, its port's mark
 -- and what the notice makes of the log

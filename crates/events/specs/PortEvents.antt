@@ -1,13 +1,13 @@
 -- 01, Notices: which an event raises; and what an event gives.
 use Rattle.tlv.specs.Refusals.{rejection}
-use Rattle.std.specs.Prelude.{ℕ, false, Option, List, [], ◌∷◌, if◌then◌else◌, None, Some, Ok, Err}
+use Rattle.std.specs.Prelude.{ℕ, false, List, [], ◌∷◌, if◌then◌else◌, None, Some, Ok, Err}
 use Rattle.octets.specs.Words.{◌is◌}
 use Rattle.tlv.specs.declared.Refusal.{Refusal}
 use Rattle.parameters.specs.declared.Feature.TheVariants.{Groups, Flow, Applications}
 use Rattle.feature.specs.declared.Reason.{Reason}
 use Rattle.feature.specs.declared.Reason.TheVariants as reason
 use Rattle.feature.specs.Reasons.{reason_number}
-use Rattle.parameters.specs.declared.Feature.{Feature}
+use Rattle.parameters.specs.Parameters.{feature_number}
 use Rattle.notices.specs.declared.Kind.TheVariants as kind
 use Rattle.notices.specs.declared.Notice.{Notice}
 use Rattle.port.specs.declared.Port.{Port}
@@ -48,14 +48,14 @@ abbrev pub silent : Notices
 silent = record { port = None; groups = None; flow = None; applications = None }
 
 -- "Port notices come first, then ascending features." "its feature, 0 for a port notice"; 02, E10: "each with its port number"
-unfoldable pub listed : ℕ → Raised → Option Feature → List Notice → List Notice
+unfoldable pub listed : ℕ → Raised → ℕ → List Notice → List Notice
 listed port None feature rest = rest
 listed port (Some k) feature rest = record { port = port; kind = k; feature = feature } ∷ rest
 
 unfoldable pub in_order : ℕ → Notices → List Notice
 in_order port n =
-    listed port n.port None
-    (listed port n.groups (Some Groups) (listed port n.flow (Some Flow) (listed port n.applications (Some Applications) [])))
+    listed port n.port 0
+    (listed port n.groups (feature_number Groups) (listed port n.flow (feature_number Flow) (listed port n.applications (feature_number Applications) [])))
 
 -- ---- Events
 

@@ -1,7 +1,7 @@
 -- A line, and what is judged behind it: a law for each way out, with premises in the form in which tests and calls leave them. Assumes nothing.
-use Rattle.std.specs.Prelude.{ℕ, ◌<◌, ◌≡◌, Bool, List, length, if◌then◌else◌, Option, Some, None, Ok, Err}
-use Rattle.std.proofs.Math.Path.{refl, ap}
-use Rattle.std.proofs.Common.{sym, ◌∙◌, lt-ltb}
+use Rattle.std.specs.Prelude.{ℕ, ◌≡◌, Bool, List, if◌then◌else◌, Option, Some, None, Ok, Err}
+use Rattle.std.proofs.Math.Path.{refl}
+use Rattle.std.proofs.Common.{sym, ◌∙◌}
 use Rattle.std.proofs.Math.Bool.{true, false}
 use Rattle.port.specs.declared.Event.{Event}
 use Rattle.port.specs.declared.Port.{Port}
@@ -20,7 +20,7 @@ use Rattle.numerals.specs.Numerals.{more}
 use Rattle.comparison.specs.Comparison.{is_due, place_in, compared_with}
 use Rattle.judgement.specs.declared.Course.{Course}
 use Rattle.judgement.specs.declared.Judged.{Judged}
-use Rattle.judgement.specs.Entries.{Passed, told_by, entry_by, change_on, entry_as, entry_of}
+use Rattle.judgement.specs.Entries.{told_by, entry_by, change_on, entry_as}
 use Rattle.judgement.specs.Courses.{sent_on, given_on, changed_on, passed_on}
 use Rattle.judgement.specs.Steps.{rejected_with, sent_at, with_entry, with_line}
 

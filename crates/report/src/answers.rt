@@ -16,7 +16,7 @@ fn raised_one(page: &mut Output, kind: Kind, of: Option<Feature>) {
 }
 
 pub fn notice(page: &mut Output, n: Notice) {
-    raised_one(page, n.kind, n.feature);
+    raised_one(page, n.kind, Feature::try_from(n.feature).ok());
 }
 
 // The notices that an event raised, a line each, each behind its port where the line that is answered gave it: the port's

@@ -157,7 +157,7 @@ fn took(x: Result<Notice, Refusal>) -> Told {
     match x {
         Ok(n) => Told {
             notice: u8::from(n.kind),
-            feature: dump::feature_place(n.feature),
+            feature: n.feature,
             ..nothing()
         },
         Err(why) => refused(why, 0),

@@ -2,14 +2,11 @@
 use Prim.Native.Nat.{ℕ, suc}
 use mathlib.Core.Path.{◌≡◌, refl, sym, ap, ◌∙◌}
 use mathlib.Core.List.{List, [], ◌∷◌, ◌++◌}
-use lib.ListN.{length, take, drop}
-use lib.Seq.{take-append_seam}
+use lib.ListN.{length, drop}
 use borrow.Author.Tests.{le-ltb}
 use Rattle.port.specs.declared.Port.{Port}
 use Rattle.port.specs.Writing.{to_write}
-use Rattle.std.specs.Prelude.{Some}
-use Rattle.words.specs.declared.Held.{Held}
-use Rattle.words.specs.Text.{held, pending}
+use Rattle.words.specs.Text.{held}
 use Rattle.words.specs.TextLaws.{pending_held}
 use Rattle.capture.specs.Capture.{lines}
 use Rattle.capture.specs.Feeding.{in_turn, joined, held_fed}

@@ -1,6 +1,6 @@
 -- What the rows of the worked table are computed from: the settings of document 01's W2 and their variants, frames made of its sub-TLVs,
 -- calls at a recorder, at its port 1 where any will do, and rounds between two.
-use Rattle.std.specs.Prelude.{ℕ, zero, suc, ◌/◌, ◌%◌, true, false, ◌&&◌, List, [], ◌∷◌, ◌++◌, map, length, drop, replicate, get_or, set, if◌then◌else◌, Option, None, Some, Ok, Err}
+use Rattle.std.specs.Prelude.{ℕ, zero, suc, ◌/◌, ◌%◌, true, false, ◌&&◌, List, [], ◌∷◌, ◌++◌, map, length, drop, replicate, get_or, set, if◌then◌else◌, Ok, Err}
 use Prim.Native.String.{String}
 use Rattle.std.proofs.Math.Option.{none}
 use Rattle.std.proofs.Math.ListN as list
@@ -31,7 +31,7 @@ use Rattle.port.specs.Settled.{settled}
 use Rattle.admission.specs.Admission as admission
 use Rattle.recorder.specs.declared.Recorder.{Recorder}
 use Rattle.recorder.specs.Recorder.{port_at, blank}
-use Rattle.calls.specs.Calls.{Operation, create, frame, flag, setting, write, take, Call, raised, after, after_all, lent_after, reply_of, feature_or_port}
+use Rattle.calls.specs.Calls.{Operation, create, frame, flag, setting, write, take, Call, raised, after, after_all, lent_after, reply_of}
 use Rattle.rounds.specs.Rounds as ends
 use Rattle.exchange.specs.Recorders as cable
 
@@ -198,10 +198,10 @@ wrote r n = answers r [] (at 1 (write (ffs n)))
 unfoldable pub output : Recorder → ℕ → List ℕ
 output r n = get_or (lent_after r (at 1 (write (ffs n)))) 0 []
 
--- number and feature of each notice, 0 for one of the port
+-- number and feature of each notice
 unfoldable pub numbered : List Notice → List ℕ
 numbered [] = []
-numbered (x ∷ xs) = notices.notice_number x.kind ∷ feature_or_port x.feature ∷ numbered xs
+numbered (x ∷ xs) = notices.notice_number x.kind ∷ x.feature ∷ numbered xs
 
 -- those that a call raises, after some calls
 unfoldable pub raises : Recorder → List Call → Call → List ℕ
@@ -302,17 +302,14 @@ exchange name rounds_of n stated_numbers stated_versions stated_reasons =
     ∷ row name (reasons now.r) (text stated_reasons)
     ∷ []
 
--- ---- notices that differ from those around them: the kinds in turn, of the port and then of each feature, and all of it again
+-- ---- notices that differ: the kinds in turn, of the port and then of each feature
 
 unfoldable pub kinds : List Kind
 kinds = Bad ∷ SeveralNeighbours ∷ TransmitOff ∷ ReceiveOff ∷ DuplicateControl ∷ Duplicate ∷ Absent ∷ PeerGone ∷ NotCompatible ∷ []
 
-unfoldable pub places : List (Option Feature)
-places = None ∷ Some Groups ∷ Some Flow ∷ Some Applications ∷ []
-
 unfoldable pub differing : ℕ → ℕ → List Notice
 differing zero i = []
-differing (suc n) i = record { port = 1; kind = get_or kinds (i % 9) Bad; feature = get_or places (i / 9 % 4) None } ∷ differing n (suc i)
+differing (suc n) i = record { port = 1; kind = get_or kinds (i % 9) Bad; feature = i / 9 } ∷ differing n (suc i)
 
 unfoldable pub sixty_five : Log
 sixty_five = notices.logged_all notices.empty_log (differing 65 0)

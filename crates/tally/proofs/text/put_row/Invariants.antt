@@ -1,5 +1,4 @@
 -- `put_row` meets its contract: the numbers from place i on are still to be put. Assumes nothing.
-use Rattle.std.proofs.Common.{◌≡◌, length}
 use Rattle.tally.specs.TextLaws.{Rowing}
 use Rattle.tally.proofs.text.put_row.Given as goal
 
