@@ -59,7 +59,7 @@ fn control_of(max: u8, s: &[u8]) -> Parsed
     named_revision(max, words::behind(s))
 }
 
-// A word with a number that is to be a name.
+// The word at a place, which is to be a name.
 fn named(n: Name, place: usize, w: &[u8]) -> Result<(), Unread>
     ensures { result ≡ named n place w.now }
 {
