@@ -7,7 +7,7 @@ use tlv::Head;
 // The octets before the first sub-TLV: the frame's head, the OUI and the subtype.
 const FRAME_HEAD: usize = 6;
 
-// The sub-TLV in which an octet stands, by its type, 0 for the octets before the first, and which octet of it.
+// The sub-TLV in which an octet stands, by its type, which may be any, 0 for the octets before the first, and which octet of it.
 #[derive(Clone, Copy, Debug, PartialEq, Eq)]
 pub struct Position {
     pub kind: u8,

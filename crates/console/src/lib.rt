@@ -108,7 +108,7 @@ impl<'a> Input<'a> {
         }
     }
 
-    // The line that was found last.
+    // A line that was found, as long as no more is read.
     pub fn line(&self, found: Found) -> &[u8]
         ensures { result.now ≡ drop found.from (take found.to self.now.buffer.now) }
     {
@@ -206,7 +206,7 @@ impl<'a> Input<'a> {
         Ok(0)
     }
 
-    // Reads once more. A read that gives nothing is the end of the input, one that a signal interrupts is tried again.
+    // Reads once more, while the input is open. A read that gives nothing is the end of the input, one that a signal interrupts is tried again.
     pub fn more(&mut self) {
         self.shift();
         match self.read_behind() {

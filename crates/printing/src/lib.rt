@@ -27,6 +27,7 @@ impl<const N: usize> Model for Page<N> {
 }
 
 impl<const N: usize> Page<N> {
+    // An empty page.
     pub fn new() -> Self
         ensures { result ≡ [] }
     {
@@ -43,6 +44,7 @@ impl<const N: usize> Page<N> {
         &self.octets[..self.length]
     }
 
+    // How many octets are put.
     pub fn len(&self) -> usize
         ensures { result ≡ length self.now }
     {
@@ -76,7 +78,8 @@ impl<const N: usize> Page<N> {
         self.length = end;
     }
 
-    // Puts what a value prints. `write!` and `writeln!` on a page call this, and so give no result that could be an error.
+    // Puts what a value prints. `write!` and `writeln!` on a page call this, and so give no result that could be an error. Nothing is
+    // promised of what is put: a value's Display may give an error behind a part of its text.
     pub fn write_fmt<D: fmt::Display + Drop>(&mut self, x: D) {
         let _ = fmt::Write::write(self, x);
     }

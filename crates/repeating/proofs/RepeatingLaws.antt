@@ -1,4 +1,4 @@
--- Laws for each way out of the functions. Assumes nothing.
+-- What a frame that is read has inside. Assumes nothing.
 use Rattle.std.specs.Prelude.{ℕ, ◌≡◌, List, Ok}
 use Rattle.contents.specs.declared.Contents.{Contents}
 use Rattle.tlv.specs.declared.Revision.{Revision}

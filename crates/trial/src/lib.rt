@@ -13,8 +13,8 @@
 // 4 setting change: feature number, switches, parameters
 // 5 write: room (2 octets)
 // 6 take
-// 7 numbers: SeqNo, AckNo, RcvdAckNo, FeatureSeqNo of 2, 3, 4 (4 octets each); no event of document 01
-// 8 dropped count of the port (4 octets); no event of document 01
+// 7 numbers: SeqNo, AckNo, RcvdAckNo, FeatureSeqNo of 2, 3, 4 (4 octets each); no event of a port
+// 8 dropped count of the port (4 octets); no event of a port
 // 9 nothing happens, whatever the port, and the states of all four ports are written
 // 7 and 8 do nothing at a number that is not 1 to 4.
 //
@@ -45,6 +45,7 @@ pub fn run(script: &[u8], out: &mut [u8]) -> usize {
     let mut held = recorder::blank();
     let mut w = Writer::new(out);
     let mut rest = script;
+    // Steps are of any length: nothing is counted.
     while !rest.is_empty() && !w.is_full() {
         let (step, behind) = rest.split_at(step_end(rest));
         steps::run(&mut held, octets::from(step, 2), &mut w);

@@ -21,8 +21,8 @@ enum Step<'a> {
     Look,
 }
 
-// What is written of an answer before the state; `raised` has the numbers of the notices raised, of the port and of features 2
-// to 4, 0 for none.
+// What is written of an answer before the state, octet by octet for the C tests: hence numbers, 0 for none. `raised` has those of
+// the notices raised, of the port and of features 2 to 4.
 #[derive(Clone, Copy)]
 struct Told {
     refusal: u8,
