@@ -42,16 +42,16 @@ module _ (room n : ℕ) (octets page : List ℕ) (view : take n octets ≡ page)
   module _ {s after : List ℕ} {r : ℕ} (p : Put octets n s r after) where
     pub page_holds : r ≤ room
     page_holds = elim (cases_lt room (n + length s)) [
-        inl h ↦ omega (arith, p.next, none_placed s h)
+      | inl h ↦ omega (arith, p.next, none_placed s h)
       | inr h ↦ omega (arith, p.next, all_placed s h)
-      ]
+    ]
 
     pub page_put : take r after ≡ put room page s
     page_put =
         let l = length_page in
         elim (cases_lt room (n + length s)) [
-          inl h ↦ rw (p.next, p.octets, none_placed s h, none_written s h, view) (put_left_out room page s (omega arith))
-        | inr h ↦ rw (p.next, p.octets, all_placed s h, all_written s h) (put_fits room page s (omega arith))
+          | inl h ↦ rw (p.next, p.octets, none_placed s h, none_written s h, view) (put_left_out room page s (omega arith))
+          | inr h ↦ rw (p.next, p.octets, all_placed s h, all_written s h) (put_fits room page s (omega arith))
         ]
 
   pub page_numbered : {x r : ℕ} {after : List ℕ} → Numbered octets n x r after → NumberedPage room page x (take r after)

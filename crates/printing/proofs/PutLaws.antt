@@ -72,7 +72,7 @@ module _ {before out s : List ℕ} {place i : ℕ} (r : Spelling before out s pl
   spelling_more {x} {y} h e f =
       let l : length (hex_text (take i s)) ≡ 2 * i = length_hex (take i s) ∙ ap (λ n. 2 * n) (length-take-le i s (omega arith)) in
       let two : sets before place (hex_text (take i s) ++ x ∷ y ∷ []) ≡ set (set out (place + 2 * i) x) (suc (place + 2 * i)) y =
-          (rw (l, ← r.now) at (sets_append before place (hex_text (take i s)) (x ∷ y ∷ []))) in
+      (rw (l, ← r.now) at (sets_append before place (hex_text (take i s)) (x ∷ y ∷ []))) in
       record { room = r.room; now = rw (add-one (place + 2 * i), add-one i, hex_more s i h, ← e, ← f) (sym two) }
 
   pub spelling_end : length s ≤ i → Put before place (hex_text s) (place + 2 * length s) out
