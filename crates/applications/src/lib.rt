@@ -106,6 +106,7 @@ fn clash(e: &Entry, o: &Entry) -> bool
 
 // Whether no selector and id is named by both with different maps: the walk is left at the first clash.
 #[tactic(auto, using(crate::specs::EntriesLaws::walk_left, crate::specs::EntriesLaws::walk_end), unfolding(crate::specs::Entries::no_clash))]
+#[inline(always)]
 pub fn compatible(p: &[u8], q: &[u8]) -> bool
     ensures { result ≡ compatible Applications p.now q.now }
 {
