@@ -347,14 +347,15 @@ fn suits_where(asked: bool, f: Feature, own: &[u8], theirs: &[u8]) -> bool
     asked && config::suits(f, own, theirs)
 }
 
-// Rules 6 to 9 of a sub-TLV's value. Whether the two suit is asked before, where it decides, and not in the closure: that is called
-// out of line, and the whole port would be copied for what it lends.
+// Rules 6 to 9 of a sub-TLV's value. The end's own parameters are lent from a `let` of them alone: a slice of the port would have all of
+// it put into memory. Whether the two suit is asked before, where it decides, and not in the closure, which is called out of line.
 #[inline(always)]
 fn judge_value(f: Feature, s: &Setting, oper: u8, value: &[u8]) -> Decision
     requires { valid f (parameters_of value.now) ≡ true }
     ensures { result ≡ judged_on f (switches_of s.now) (content s.now.desired) oper (flags_of value.now) (parameters_of value.now) }
 {
-    let own = s.desired.content();
+    let desired = s.desired;
+    let own = desired.content();
     let theirs = octets::from(value, 4);
     let switches = switches_of(s);
     let flags = flags_in(value);
