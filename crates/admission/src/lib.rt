@@ -41,6 +41,7 @@ pub struct Heard {
     pub control: Control,
 }
 
+#[inline(always)]
 pub fn hear(s: &[u8], c: Contents, k: Control) -> Heard
     requires { Inside s.now c }
     ensures { result ≡ heard_of s.now c k }

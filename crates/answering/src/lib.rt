@@ -91,6 +91,13 @@ fn write(page: &mut Output, n: u8, p: Port, room: usize) {
     }
 }
 
+// The state of a port whose number the line gave: it stands in front of each line, so the lines are put on a page of their own first.
+fn show_numbered(page: &mut Output, port: u8, p: &Port, l: &Log) {
+    let mut lines = Page::new();
+    report::states::show(&mut lines, p, l, port);
+    report::ports::others(page, Some(port), lines.as_slice());
+}
+
 // The state of a port, or the refusal of a number that names none.
 fn show(page: &mut Output, port: Option<u8>, p: &Port, l: &Log) {
     let n = addressing::port_meant(port);
@@ -98,30 +105,30 @@ fn show(page: &mut Output, port: Option<u8>, p: &Port, l: &Log) {
         report::answers::refused(page, Refusal::NoPort);
         return;
     }
-    let mut lines = Page::new();
-    report::states::show(&mut lines, p, l, n);
-    report::ports::others(page, port, lines.as_slice());
+    match port {
+        Some(given) => show_numbered(page, given, p, l),
+        None => report::states::show(page, p, l, n),
+    }
 }
 
 // The event that a line says. A line of the settings has no answer.
 fn answer(page: &mut Output, port: Option<u8>, p: Port, l: Log, line: &Line) -> Step {
     let n = addressing::port_meant(port);
     let octets = line.octets.as_slice();
-    let same = Step { port: p, log: l };
     match line.kind {
         Kind::Take => take(page, n, p, l),
         Kind::Frame => happen(page, port, p, l, Change::Frame, octets),
         Kind::Write(room) => {
             write(page, n, p, room);
-            same
+            Step { port: p, log: l }
         }
         Kind::Show => {
             show(page, port, &p, &l);
-            same
+            Step { port: p, log: l }
         }
         kind => match judgement::told_by(kind) {
             Some(change) => happen(page, port, p, l, change, octets),
-            None => same,
+            None => Step { port: p, log: l },
         },
     }
 }
@@ -136,15 +143,14 @@ pub fn event(
     number: u64,
     said: &[u8],
 ) -> Step {
-    let same = Step { port: p, log: l };
     if port.is_none() && addressing::is_passed_over(said) {
-        return same;
+        return Step { port: p, log: l };
     }
     match script::parse_event(said) {
         Ok(line) => answer(page, port, p, l, &line),
         Err(why) => {
             report::errors::unread(page, false, number, port, why);
-            same
+            Step { port: p, log: l }
         }
     }
 }

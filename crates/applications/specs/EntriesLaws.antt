@@ -1,8 +1,10 @@
--- Laws of whole entries, one by one: entry i of the list of them is entry i of the octets, and a test of all is a test of each. Assumes nothing.
-use Rattle.std.specs.Prelude.{ℕ, zero, suc, ◌+◌, ◌*◌, ◌≤◌, ◌<◌, ◌≡◌, refl, Bool, not, ◌&&◌, List, [], ◌∷◌, length, get_or, take, drop}
+-- Laws of whole entries, one by one: entry i of the list of them is entry i of the octets, a test of all is a test of each, and a walk over
+-- two lists of them. Assumes nothing.
+use Rattle.std.specs.Prelude.{ℕ, zero, suc, ◌+◌, ◌*◌, ◌≤◌, ◌<◌, ◌≡◌, refl, Bool, true, false, not, ◌&&◌, List, [], ◌∷◌, length, get_or, take, drop}
 use native.Mathlib.Omega.{arith}
-use Rattle.std.proofs.Common.{sym, ap, ◌∙◌, length-take-le, get_or-take, get_or-drop}
+use Rattle.std.proofs.Common.{sym, ap, ◌∙◌, length-take-le, get_or-take, get_or-drop, take_all}
 use Rattle.std.proofs.lemmas.List.{drop-drop}
+use Rattle.std.proofs.lemmas.List.Folds.{list_all_at}
 use Rattle.std.specs.List.{list_all}
 use Rattle.std.specs.Simd.{first_chunks}
 use Rattle.octets.specs.Words.{◌below◌}
@@ -101,3 +103,30 @@ module _ (p : List ℕ) where
       (λ i h.
       sym (entries_listed q (λ j. not (clash p i q j)) (λ o. not (clash (get_or (entries p) i []) 0 o 0))
       (λ j k. ap not (sym (clash_same (entry_is p [] h) (entry_is q [] k))))))
+
+-- ---- the walk over the entries of two ends, left at the first clash
+
+-- of the first j of `others` none clashes with e
+pub record Clear (e : List ℕ) (others : List (List ℕ)) (clear : Bool) (j : ℕ) : Type 0 where
+  pub still : clear ≡ true
+  pub none : list_all (no_clash e) (take j others) ≡ true
+
+-- nor with one of the first i of the entries
+pub record Walked (p : List ℕ) (others : List (List ℕ)) (clear : Bool) (i : ℕ) : Type 0 where
+  pub still : clear ≡ true
+  pub none : list_all (λ e. list_all (no_clash e) others) (take i (entries p)) ≡ true
+
+module _ (p q : List ℕ) {es others : List (List ℕ)} {i : ℕ} (all : es ≡ entries p) (os : others ≡ entries q) where
+  -- left at a clash
+  pub walk_left : {j : ℕ} {b : Bool} → i < length es → j < length others → b ≡ clash (get_or es i []) 0 (get_or others j []) 0 → b ≡ true → false ≡ compatible Applications p q
+  unfolding no_clash
+  walk_left {j} h k e t =
+      let n : not (clash (get_or es i []) 0 (get_or others j []) 0) ≡ false = rw (← e, t) refl in
+      let m : list_all (λ o. not (clash (get_or es i []) 0 o 0)) others ≡ false = list_all_at (λ o. not (clash (get_or es i []) 0 o 0)) others j [] k n in
+      sym (list_all_at (λ e. list_all (λ o. not (clash e 0 o 0)) others) es i [] h m) ∙ rw (all, os) (compatible_listed p q)
+
+  -- and else no two clash
+  pub walk_end : {clear : Bool} → Walked p others clear i → length es ≤ i → clear ≡ compatible Applications p q
+  walk_end w h =
+      let t : take i (entries p) ≡ entries p = take_all i (entries p) (rw all at h) in
+      w.still ∙ sym w.none ∙ rw (t, os) (compatible_listed p q)

@@ -5,10 +5,13 @@
 ghost use Rattle.std.specs.Prelude.{◌≡◌};
 ghost use Rattle.std.specs.List.{list_all};
 ghost use Rattle.parameters.specs.Parameters.{clash, compatible, id_of, is_ours, local_values, map_of, ours, same_name, selector_of, stored, valid};
-ghost use Rattle.applications.specs.Entries.{entries, no_clash, other_name};
+ghost use Rattle.applications.specs.Entries.{entries, other_name};
 ghost use Rattle.parameters.specs.declared.Feature.TheVariants.{Applications};
 
 use parameters::Parameters;
+
+// At most so many entries are ours.
+const MOST: usize = 16;
 
 // An application entry.
 pub type Entry = [u8; 6];
@@ -63,21 +66,21 @@ fn new_name(e: &Entry, own: &[Entry]) -> bool
     own.iter().all(|o| !same_name(e, o))
 }
 
-// Valid: whole entries, of which at most 16 are ours, no two of these with the same name. One walk gathers our own.
+// Valid: whole entries, of which at most `MOST` are ours, no two of these with the same name. One walk gathers our own.
 pub fn valid(p: &[u8]) -> bool
     ensures { result ≡ valid Applications p.now }
 {
     if p.len() % 6 != 0 {
         return false;
     }
-    let mut own = [[0; 6]; 16];
+    let mut own = [[0; 6]; MOST];
     let mut count = 0;
     let all = entries(p);
     for e in all {
         if !is_ours(e) {
             continue;
         }
-        if 16 <= count || !new_name(e, &own[..count]) {
+        if MOST <= count || !new_name(e, &own[..count]) {
             return false;
         }
         own[count] = *e;
@@ -101,19 +104,23 @@ fn clash(e: &Entry, o: &Entry) -> bool
     same_name(e, o) && is_ours(e) && is_ours(o) && map_of(e) != map_of(o)
 }
 
-// Whether an entry clashes with none of some others.
-fn clear_of(e: &Entry, others: &[Entry]) -> bool
-    ensures { result ≡ list_all (no_clash e.now) others.now }
-{
-    others.iter().all(|o| !clash(e, o))
-}
-
 // Whether no selector and id is named by both with different maps: the walk is left at the first clash.
+#[tactic(auto, using(crate::specs::EntriesLaws::walk_left, crate::specs::EntriesLaws::walk_end), unfolding(crate::specs::Entries::no_clash))]
+#[inline(always)]
 pub fn compatible(p: &[u8], q: &[u8]) -> bool
     ensures { result ≡ compatible Applications p.now q.now }
 {
     let others = entries(q);
-    entries(p).iter().all(|e| clear_of(e, others))
+    let mut clear = true;
+    'walk: for e in entries(p) {
+        for o in others {
+            if clash(e, o) {
+                clear = false;
+                break 'walk;
+            }
+        }
+    }
+    clear
 }
 
 // Our own entries as a state holds them: one walk copies each, at most 16.

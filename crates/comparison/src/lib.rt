@@ -27,15 +27,16 @@ fn common(a: &[u8], b: &[u8]) -> usize
 pub fn compare(p: &Port, line: &[u8]) -> Option<usize>
     ensures { result ≡ compared_with p.now (frame_of line.now) }
 {
-    if !port::writing::running(*p) {
+    let port = *p;
+    if !port::writing::running(port) {
         return Some(0);
     }
     let held = words::frame_of(line);
     let frame = held.as_slice();
-    let k = port::writing::frame_length(*p);
+    let k = port::writing::frame_length(port);
     let mut space = [0; 513];
     // A running port refuses only an output that its frame has no room in.
-    let _ = port::writing::write(*p, &mut space);
+    let _ = port::writing::write(port, &mut space);
     let place = common(frame, octets::first(&space, k));
     if place == frame.len() && place == k {
         None

@@ -8,6 +8,7 @@ ghost use Rattle.parameters.specs.Parameters.{compatible, local_values, ours, st
 use parameters::{Feature, Parameters};
 
 // Whether parameters that came in a frame are valid (01, TLV layout); a wrong length is not.
+#[inline(always)]
 pub fn valid(f: Feature, p: &[u8]) -> bool
     ensures { result ≡ valid f p.now }
 {
@@ -52,6 +53,7 @@ pub fn compatible(f: Feature, p: &[u8], q: &[u8]) -> bool
 // The same of applications, where the other end's are valid: valid ones suit themselves, so that the same octets need no walk over
 // pairs of entries.
 #[tactic(auto, using(crate::specs::CompatibleLaws::compatible_same))]
+#[inline(always)]
 fn suits_entries(own: &[u8], theirs: &[u8]) -> bool
     requires { valid Applications theirs.now ≡ true }
     ensures { result ≡ compatible Applications own.now theirs.now }
@@ -60,12 +62,14 @@ fn suits_entries(own: &[u8], theirs: &[u8]) -> bool
 }
 
 // Whether parameters that came in a frame are compatible with the end's own, where they are valid; hence the `requires`.
+#[inline(always)]
 pub fn suits(f: Feature, own: &[u8], theirs: &[u8]) -> bool
     requires { valid f theirs.now ≡ true }
     ensures { result ≡ compatible f own.now theirs.now }
 {
     match f {
-        Feature::Groups | Feature::Flow => compatible(f, own, theirs),
+        Feature::Groups => parameters::groups::compatible(own, theirs),
+        Feature::Flow => parameters::flow::compatible(own, theirs),
         Feature::Applications => suits_entries(own, theirs),
     }
 }

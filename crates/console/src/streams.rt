@@ -1,4 +1,5 @@
 // What the programs write, what they say of faults, and how far they are; each names itself.
+use printing::Page;
 use std::io;
 use std::io::{IsTerminal, Print};
 
@@ -90,7 +91,12 @@ impl<'a> Progress<'a> {
         if !self.terminal || lines == self.shown {
             return;
         }
-        let _ = eprint!(self.streams.rt; "\r{}: {lines} lines", self.streams.program);
+        let mut page: Page<4096> = Page::new();
+        page.text(b"\r");
+        page.text(self.streams.program.as_bytes());
+        page.field(b": ", lines);
+        page.text(b" lines");
+        let _ = self.streams.rt.stderr().write_all(page.as_slice());
         self.shown = lines;
     }
 

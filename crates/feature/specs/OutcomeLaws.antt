@@ -85,6 +85,21 @@ flags_of v = record { enable = enable_of v; willing = willing_of v; error = erro
 unfoldable pub judged_with : Switches → ℕ → Flags → Bool → Decision
 judged_with s oper p c = decided (judged_by (s.enable && p.enable) (beq s.willing p.willing) c s.willing oper (peer_of p no_parameters))
 
+-- whether they come to ask if the two suit each other
+abbrev pub asked : Switches → Flags → Bool
+asked s p = s.enable && p.enable && beq s.willing p.willing
+
+-- and where they do not, it makes no difference
+pub judged_asked : (s : Switches) (oper : ℕ) (p : Flags) (c : Bool) → judged_with s oper p (asked s p && c) ≡ judged_with s oper p c
+unfolding judged_with judged_by
+judged_asked s oper p c = by s.enable p.enable (beq s.willing p.willing)
+  where
+    by : (a b w : Bool) → decided (judged_by (a && b) w (a && b && w && c) s.willing oper (peer_of p no_parameters)) ≡ decided (judged_by (a && b) w c s.willing oper (peer_of p no_parameters))
+    by true true true = refl
+    by true true false = refl
+    by true false w = refl
+    by false b w = refl
+
 -- every answer that is possible is this one
 abbrev pub Answers : (Bool → Type 0) → Bool → Type 0
 Answers possible c = (b : Bool) → possible b → b ≡ c

@@ -1,11 +1,11 @@
 // One feature: its setting, its state by their parts, and the outcome rules that all three features share.
 #![tactic(auto)]
 
-ghost use Rattle.std.specs.Prelude.{◌≡◌, Bool, Some, true};
-ghost use Rattle.parameters.specs.Parameters.{content, no_parameters, valid};
+ghost use Rattle.std.specs.Prelude.{◌≡◌, ◌&&◌, Bool, Some, true};
+ghost use Rattle.parameters.specs.Parameters.{compatible, content, no_parameters, valid};
 ghost use Rattle.feature.specs.Reasons.{reason_name, reason_number};
 ghost use Rattle.feature.specs.Outcome.{configuration, outcome, parameters_held, parameters_of, with_peer, without_peer};
-ghost use Rattle.feature.specs.OutcomeLaws.{Answers, decided, flags_of, judged_on, judged_with, outcome_of, peer_flags, peer_of, peer_with, switches_of};
+ghost use Rattle.feature.specs.OutcomeLaws.{Answers, asked, decided, flags_of, judged_on, judged_with, outcome_of, peer_flags, peer_of, peer_with, switches_of};
 
 use parameters::{Feature, Parameters};
 use std::fmt;
@@ -144,11 +144,18 @@ impl From<Setting> for Switches {
     ghost from_gives = { λ s w. w ≡ switches_of s };
 
     fn from(s: Setting) -> Switches {
-        Switches {
-            advertise: s.advertise,
-            enable: s.enable,
-            willing: s.willing,
-        }
+        switches_of(&s)
+    }
+}
+
+// The same of a setting that is lent: none of it is copied but the switches. So it is of the two below.
+fn switches_of(s: &Setting) -> Switches
+    ensures { result ≡ switches_of s.now }
+{
+    Switches {
+        advertise: s.advertise,
+        enable: s.enable,
+        willing: s.willing,
     }
 }
 
@@ -157,11 +164,17 @@ impl From<Peer> for Flags {
     ghost from_gives = { λ p w. w ≡ peer_flags p };
 
     fn from(p: Peer) -> Flags {
-        Flags {
-            enable: p.enable,
-            willing: p.willing,
-            error: p.error,
-        }
+        peer_flags(&p)
+    }
+}
+
+fn peer_flags(p: &Peer) -> Flags
+    ensures { result ≡ peer_flags p.now }
+{
+    Flags {
+        enable: p.enable,
+        willing: p.willing,
+        error: p.error,
     }
 }
 
@@ -170,20 +183,39 @@ impl From<Outcome> for Decision {
     ghost from_gives = { λ o d. d ≡ decided o };
 
     fn from(o: Outcome) -> Decision {
-        Decision {
-            reason: o.reason,
-            oper: o.oper,
-            error: o.error,
-            mode: o.mode,
-            peer: o.peer.map(|p| Flags::from(p)),
-            adopts: o.adopts,
-        }
+        decision_of(&o)
+    }
+}
+
+#[inline(always)]
+pub fn decision_of(o: &Outcome) -> Decision
+    ensures { result ≡ decided o.now }
+{
+    let peer = match &o.peer {
+        Some(p) => Some(peer_flags(p)),
+        None => None,
+    };
+    Decision {
+        reason: o.reason,
+        oper: o.oper,
+        error: o.error,
+        mode: o.mode,
+        peer,
+        adopts: o.adopts,
     }
 }
 
 // The parameters held of a peer.
 pub fn parameters_held(peer: Option<Peer>) -> Parameters
     ensures { result ≡ parameters_held peer }
+{
+    held_parameters(&peer)
+}
+
+// The same of a peer that is lent.
+#[inline(always)]
+pub fn held_parameters(peer: &Option<Peer>) -> Parameters
+    ensures { result ≡ parameters_held peer.now }
 {
     match peer {
         Some(p) => p.parameters,
@@ -214,6 +246,7 @@ pub fn no_parameters() -> Parameters
 }
 
 // An outcome by its decision and the peer's parameters.
+#[inline(always)]
 pub fn outcome_of(d: Decision, p: Parameters) -> Outcome
     ensures { result ≡ outcome_of d p }
 {
@@ -222,12 +255,15 @@ pub fn outcome_of(d: Decision, p: Parameters) -> Outcome
         oper: d.oper,
         error: d.error,
         mode: d.mode,
-        peer: d.peer.map(|flags| Peer {
-            enable: flags.enable,
-            willing: flags.willing,
-            error: flags.error,
-            parameters: p,
-        }),
+        peer: match d.peer {
+            Some(flags) => Some(Peer {
+                enable: flags.enable,
+                willing: flags.willing,
+                error: flags.error,
+                parameters: p,
+            }),
+            None => None,
+        },
         adopts: d.adopts,
     }
 }
@@ -262,6 +298,7 @@ fn with_peer(reason: Reason, oper: u8, error: bool, mode: bool, p: Flags, adopts
 
 // Rules 6 to 9, at a version and with a peer. `suits` says whether the two ends' parameters are compatible, and is asked only
 // where that decides. For each caller the compiler makes a copy of its own, which is inlined there.
+#[inline(always)]
 pub fn judge<F: FnOnce() -> bool>(s: Switches, oper: u8, p: Flags, suits: F) -> Decision
     requires { F.pre suits }
     ensures { (c : Bool) → Answers (F.post suits) c → result ≡ judged_with s oper p c }
@@ -282,6 +319,7 @@ pub fn judge<F: FnOnce() -> bool>(s: Switches, oper: u8, p: Flags, suits: F) -> 
 }
 
 // The flags of a sub-TLV, of its value.
+#[inline(always)]
 fn flags_in(value: &[u8]) -> Flags
     ensures { result ≡ flags_of value.now }
 {
@@ -293,19 +331,40 @@ fn flags_in(value: &[u8]) -> Flags
     }
 }
 
-// Rules 6 to 9 of a sub-TLV's value.
+// Whether rules 6 to 9 come to ask if the two ends' parameters are compatible.
+fn asks(s: Switches, p: Flags) -> bool
+    ensures { result ≡ asked s p }
+{
+    s.enable & p.enable & (s.willing == p.willing)
+}
+
+// Whether parameters that came in a frame suit the end's own, where that is asked.
+#[inline(always)]
+fn suits_where(asked: bool, f: Feature, own: &[u8], theirs: &[u8]) -> bool
+    requires { valid f theirs.now ≡ true }
+    ensures { result ≡ (asked && compatible f own.now theirs.now) }
+{
+    asked && config::suits(f, own, theirs)
+}
+
+// Rules 6 to 9 of a sub-TLV's value. The end's own parameters are lent from a `let` of them alone: a slice of the port would have all of
+// it put into memory. Whether the two suit is asked before, where it decides, and not in the closure, which is called out of line.
+#[inline(always)]
 fn judge_value(f: Feature, s: &Setting, oper: u8, value: &[u8]) -> Decision
     requires { valid f (parameters_of value.now) ≡ true }
     ensures { result ≡ judged_on f (switches_of s.now) (content s.now.desired) oper (flags_of value.now) (parameters_of value.now) }
 {
-    let own = s.desired.content();
+    let desired = s.desired;
+    let own = desired.content();
     let theirs = octets::from(value, 4);
-    judge(Switches::from(*s), oper, flags_in(value), || {
-        config::suits(f, own, theirs)
-    })
+    let switches = switches_of(s);
+    let flags = flags_in(value);
+    let suits = suits_where(asks(switches, flags), f, own, theirs);
+    judge(switches, oper, flags, || suits)
 }
 
 // The outcome rules, first that applies: `count` sub-TLVs of the feature came, and `value` is that of the last.
+#[inline(always)]
 pub fn decide(f: Feature, max: u8, s: &Setting, oper: u8, count: u8, value: &[u8]) -> Decision
     ensures { result ≡ decided (outcome f max s.now oper (record { count = count; value = value.now })) }
 {

@@ -21,12 +21,12 @@ const FIXED: usize = 6;
 
 // How many lines of each kind there were.
 pub fn accepted(page: &mut Output, c: Course) {
-    write!(
-        page,
-        "{} lines: {} sent, {} given, ",
-        c.lines, c.sent, c.given
-    );
-    writeln!(page, "{} changes, {} passed over", c.changes, c.passed);
+    page.number(c.lines);
+    page.field(b" lines: ", c.sent);
+    page.field(b" sent, ", c.given);
+    page.field(b" given, ", c.changes);
+    page.field(b" changes, ", c.passed);
+    page.text(b" passed over\n");
 }
 
 // A frame, the octet at a place in brackets.
@@ -43,7 +43,7 @@ fn marked(page: &mut Output, s: &[u8], place: usize) {
 // The octet at a place, or that there is none.
 fn octet(page: &mut Output, s: &[u8], place: usize) {
     match s.get(place) {
-        Some(x) => write!(page, "{x:02x}"),
+        Some(x) => page.hex(&[*x]),
         None => page.text(b"nothing"),
     }
 }
@@ -76,8 +76,11 @@ fn fixed(kind: u8, i: usize) -> &'static str {
 
 fn groups_field(page: &mut Output, i: usize) {
     match i {
-        0..=3 => write!(page, "groups of priorities {} and {}", 2 * i, 2 * i + 1),
-        4..=11 => write!(page, "percentage of group {}", i - 4),
+        0..=3 => {
+            page.field(b"groups of priorities ", 2 * i as u64);
+            page.field(b" and ", 2 * i as u64 + 1);
+        }
+        4..=11 => page.field(b"percentage of group ", i as u64 - 4),
         _ => page.text(b"number of classes"),
     }
 }
@@ -98,7 +101,10 @@ fn parameter(page: &mut Output, kind: u8, i: usize) {
         GROUPS => groups_field(page, i),
         FLOW if i == 0 => page.text(b"mask"),
         FLOW => page.text(b"number of classes"),
-        _ => write!(page, "entry {} {}", i / 6 + 1, entry_part(i % 6)),
+        _ => {
+            page.field(b"entry ", (i / 6) as u64 + 1);
+            write!(page, " {}", entry_part(i % 6));
+        }
     }
 }
 
@@ -144,11 +150,17 @@ fn beside(page: &mut Output, p: Port, sent: &[u8], place: usize) {
 fn led_by(page: &mut Output, c: Course) {
     match c.since {
         0 => page.text(b"due since its creation\n"),
-        line => writeln!(page, "due since line {line}"),
+        line => {
+            page.field(b"due since line ", line);
+            page.text(b"\n");
+        }
     }
     match c.taken {
         0 => page.text(b"state as its creation left it\n"),
-        line => writeln!(page, "state as line {line} left it"),
+        line => {
+            page.field(b"state as line ", line);
+            page.text(b" left it\n");
+        }
     }
 }
 

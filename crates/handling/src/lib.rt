@@ -171,9 +171,9 @@ fn release(p: Port) -> Port
 }
 
 // The port after a frame that is accepted, by what `decide` says that it changes, before anything is released.
-fn apply(p: Port, k: Change, s: &[u8], c: Contents) -> Port
-    requires { Inside s.now c × (k ≡ change_of s.now c p) }
-    ensures { result ≡ unreleased s.now c p }
+fn apply(p: &Port, k: Change, s: &[u8], c: Contents) -> Port
+    requires { Inside s.now c × (k ≡ change_of s.now c p.now) }
+    ensures { result ≡ unreleased s.now c p.now }
 {
     let course = k.course;
     let z = peer_parameters(
@@ -186,7 +186,7 @@ fn apply(p: Port, k: Change, s: &[u8], c: Contents) -> Port
     );
     let y = peer_parameters(Feature::Flow, &p.flow, course, k.flow, s, c.flow);
     let x = peer_parameters(Feature::Groups, &p.groups, course, k.groups, s, c.groups);
-    let mut next = p;
+    let mut next = *p;
     next.control = k.control;
     turn::renew(&mut next.groups, k.groups, x);
     turn::renew(&mut next.flow, k.flow, y);
@@ -200,7 +200,16 @@ pub fn accept(p: Port, s: &[u8], c: Contents) -> Event
     requires { Admits p s.now (Ok c) }
     ensures { result ≡ handled p s.now }
 {
-    let change = decide(&p, s, c);
+    accept_at(&p, s, c)
+}
+
+// The same of a port that is lent: by value it would be copied once more.
+#[inline(always)]
+pub fn accept_at(p: &Port, s: &[u8], c: Contents) -> Event
+    requires { Admits p.now s.now (Ok c) }
+    ensures { result ≡ handled p.now s.now }
+{
+    let change = decide(p, s, c);
     let next = apply(p, change, s, c);
     if change.releases {
         return Event {
@@ -221,7 +230,7 @@ pub fn handle(p: Port, s: &[u8]) -> Event
     ensures { result ≡ handled p s.now }
 {
     match admission::admit(p, s) {
-        Ok(contents) => accept(p, s, contents),
+        Ok(contents) => accept_at(&p, s, contents),
         Err(r) => admission::reject(r, p),
     }
 }

@@ -1,10 +1,11 @@
 -- Laws of octets and of lists that several crates use. Assumes nothing.
-use Rattle.std.specs.Cmp.Lexicographic.{pointwise}
 use borrow.Rule.Slice.PartMut.{put_mid}
-use Rattle.std.specs.Prelude.{nat_eq, ◌/◌, ◌%◌, ℕ, suc, ◌+◌, ◌≤◌, ◌≡◌, refl, Bool, true, false, ◌&&◌, List, [], ◌∷◌, ◌++◌, set}
+use Rattle.std.specs.Prelude.{◌/◌, ◌%◌, ℕ, suc, ◌+◌, ◌≤◌, ◌<◌, ◌≡◌, refl, Bool, true, false, ◌&&◌, List, [], ◌∷◌, ◌++◌, set, drop}
 use Rattle.std.proofs.Common.{arith, add-zero, add-suc, suc-add, ap, ◌∙◌, take_all, eq-eqb, eqb-true}
+use Rattle.std.proofs.Math.Numerals.{add-one}
 use Rattle.std.proofs.Math.Path.{sym}
-use Rattle.std.proofs.Math.ListN.{length, get_or-eq_default}
+use Rattle.std.proofs.Math.ListN.{length, get_or-eq_default, drop_of_length-le}
+use Rattle.std.proofs.Math.Seq.{drop-cons}
 use Rattle.std.proofs.lemmas.List.Edits.{sets, sets-eq}
 use Rattle.std.proofs.lemmas.Slice.{put_mid-paste}
 use Rattle.octets.specs.Words.{◌is◌}
@@ -51,16 +52,41 @@ unlike (x ∷ a) [] n = refl
 unlike (x ∷ a) (y ∷ b) n =
     elim (x is y) as (λ t. false ≡ (t && same a b)) [ true ↦ unlike a b (λ e. n (ap suc e)) | false ↦ refl ]
 
--- what `==` of slices says
-pointwise_same : (a b : List ℕ) → pointwise nat_eq a b ≡ same a b
-unfolding same
-pointwise_same [] [] = refl
-pointwise_same [] (y ∷ b) = refl
-pointwise_same (x ∷ a) [] = refl
-pointwise_same (x ∷ a) (y ∷ b) = rw (pointwise_same a b) refl
+-- whether the first i are alike, and what is left decide
+pub record Alike (a b : List ℕ) (alike : Bool) (i : ℕ) : Type 0 where
+  pub long : length a ≡ length b
+  pub below : i ≤ length a
+  pub left : (alike && same (drop i a) (drop i b)) ≡ same a b
 
-pub same_by : (a b : List ℕ) {r : Bool} → r ≡ pointwise nat_eq a b → r ≡ same a b
-same_by a b e = e ∙ pointwise_same a b
+pub alike_start : {a b : List ℕ} → length a ≡ length b → Alike a b true 0
+alike_start l = record { long = l; below = omega arith; left = refl }
+
+and_three : (a b c : Bool) → (a && b && c) ≡ (a && (b && c))
+and_three true b c = refl
+and_three false b c = refl
+
+and_nothing : (a : Bool) → (a && true) ≡ a
+and_nothing true = refl
+and_nothing false = refl
+
+module _ {a b : List ℕ} {alike : Bool} {i : ℕ} where
+  pub alike_more : Alike a b alike i → i < length a → Alike a b (alike && at a i is at b i) (i + 1)
+  unfolding same
+  alike_more p h =
+      let k : i < length b = omega (arith, p.long) in
+      record {
+        long = p.long;
+        below = omega arith;
+        left =
+            and_three alike (at a i is at b i) (same (drop (i + 1) a) (drop (i + 1) b))
+            ∙ rw add-one (rw (drop-cons a i 0 h, drop-cons b i 0 k) at p.left);
+      }
+
+  pub alike_end : Alike a b alike i → length a ≤ i → alike ≡ same a b
+  unfolding same
+  alike_end p h =
+      let k : length b ≤ i = omega (arith, p.long) in
+      sym (and_nothing alike) ∙ (rw (drop_of_length-le a h, drop_of_length-le b k) at p.left)
 
 -- ---- runs of stores
 

@@ -160,7 +160,8 @@ fn first_line(page: &mut Output, rounds: u64, told: &[(Feature, Told); 3]) {
     let open = told.iter().any(|(_, t)| *t == Told::Open);
     let silent = told.iter().any(|(_, t)| matches!(t, Told::Silent { .. }));
     if open {
-        write!(page, "not agreed after {rounds} rounds:");
+        page.field(b"not agreed after ", rounds);
+        page.text(b" rounds:");
         for (feature, t) in told {
             if *t == Told::Open {
                 write!(page, " {feature}");
@@ -170,9 +171,11 @@ fn first_line(page: &mut Output, rounds: u64, told: &[(Feature, Told); 3]) {
             write!(page, "; not exchanged:");
         }
     } else if silent {
-        write!(page, "not exchanged after {rounds} rounds:");
+        page.field(b"not exchanged after ", rounds);
+        page.text(b" rounds:");
     } else {
-        write!(page, "agreed after {rounds} rounds");
+        page.field(b"agreed after ", rounds);
+        page.text(b" rounds");
     }
     silent_features(page, told);
     writeln!(page);
@@ -194,13 +197,10 @@ fn compare(page: &mut Output, rounds: u64, a: Port, b: Port) {
 // What an end has come to; each line begins with its name. An end of Rev 1.0 has no line on applications.
 fn end_lines(page: &mut Output, name: &str, e: End) {
     let p = e.port;
-    writeln!(
-        page,
-        "{name}control version {}{}",
-        p.control.oper,
-        report::states::revision_words(p.revision)
-    );
     let lead = name.as_bytes();
+    page.text(lead);
+    page.field(b"control version ", u64::from(p.control.oper));
+    writeln!(page, "{}", report::states::revision_words(p.revision));
     report::states::feature_line(page, lead, Feature::Groups, &p.groups);
     report::states::feature_line(page, lead, Feature::Flow, &p.flow);
     if tlv::has_applications(p.revision) {

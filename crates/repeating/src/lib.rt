@@ -88,6 +88,7 @@ fn repeats_held(f: Feature, x: &State, value: &[u8]) -> bool
 
 // Whether a frame brings of a feature what is held; of one that is not advertised nothing is taken.
 #[tactic(auto, unfolding(crate::specs::Repeating::repeats_in))]
+#[inline(always)]
 fn repeats_feature(f: Feature, x: &State, s: &[u8], found: Found) -> bool
     requires { found.start + found.length ≤ length s.now }
     ensures { result ≡ repeats_in f x.now found.count (value_of s.now found) }

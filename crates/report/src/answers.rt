@@ -8,10 +8,10 @@ use tlv::{Refusal, Rejection};
 
 // `notice N NAME WHERE`, where that is a feature or the port.
 fn raised_one(page: &mut Output, kind: Kind, of: Option<Feature>) {
-    let number = u8::from(kind);
+    page.field(b"notice ", u64::from(u8::from(kind)));
     match of {
-        Some(feature) => writeln!(page, "notice {number} {kind} {feature}"),
-        None => writeln!(page, "notice {number} {kind} port"),
+        Some(feature) => writeln!(page, " {kind} {feature}"),
+        None => writeln!(page, " {kind} port"),
     }
 }
 
@@ -47,14 +47,15 @@ pub fn raised_count(n: Notices) -> u8 {
 // How many notice lines follow, where any does, and the end of the line.
 fn ending(page: &mut Output, follow: u8) {
     if follow != 0 {
-        write!(page, " notices {follow}");
+        page.field(b" notices ", u64::from(follow));
     }
     page.text(b"\n");
 }
 
 // `refused N NAME`
 fn refusal(page: &mut Output, why: Refusal) {
-    write!(page, "refused {} {why}", u8::from(why));
+    page.field(b"refused ", u64::from(u8::from(why)));
+    write!(page, " {why}");
 }
 
 // `refused N NAME`, a line
@@ -72,7 +73,7 @@ fn has_place(why: Refusal) -> bool {
 pub fn refused_at(page: &mut Output, r: Rejection, follow: u8) {
     refusal(page, r.why);
     if has_place(r.why) {
-        write!(page, " at {}", r.place);
+        page.field(b" at ", r.place as u64);
     }
     ending(page, follow);
 }
@@ -95,7 +96,8 @@ pub fn frame(page: &mut Output, octets: &[u8]) {
 
 // `bad settings: line N: refused R NAME`
 pub fn refused_setting(page: &mut Output, line: u64, why: Refusal) {
-    write!(page, "bad settings: line {line}: ");
+    page.field(b"bad settings: line ", line);
+    page.text(b": ");
     refused(page, why);
 }
 

@@ -6,19 +6,20 @@ fn groups(page: &mut Output, p: &[u8]) {
     page.text(b" priorities");
     for i in 0..4 {
         let two = octets::octet(p, i);
-        write!(page, " {} {}", two / 16, two % 16);
+        page.field(b" ", u64::from(two / 16));
+        page.field(b" ", u64::from(two % 16));
     }
     page.text(b" percentages");
     for i in 4..12 {
-        write!(page, " {}", octets::octet(p, i));
+        page.field(b" ", u64::from(octets::octet(p, i)));
     }
-    write!(page, " classes {}", octets::octet(p, 12));
+    page.field(b" classes ", u64::from(octets::octet(p, 12)));
 }
 
 fn flow(page: &mut Output, p: &[u8]) {
     page.text(b" mask ");
     page.hex(octets::first(p, 1));
-    write!(page, " classes {}", octets::octet(p, 1));
+    page.field(b" classes ", u64::from(octets::octet(p, 1)));
 }
 
 // The word for the selector that the lower two bits of an octet give.

@@ -12,7 +12,10 @@ fn field_due(page: &mut Output, f: Field) {
             page.text(b" is due\n");
         }
         Field::Bit => page.text(b"a bit is due\n"),
-        Field::Decimal(limit) => writeln!(page, "a number up to {limit} is due"),
+        Field::Decimal(limit) => {
+            page.field(b"a number up to ", u64::from(limit));
+            page.text(b" is due\n");
+        }
         Field::Hex2 => page.text(b"two hex digits are due\n"),
         Field::Hex4 => page.text(b"four hex digits are due\n"),
         Field::Selector => page.text(b"a selector is due\n"),
@@ -36,9 +39,9 @@ fn due(page: &mut Output, d: Due) {
 // `error N`, or `bad settings: line N` for a line of the settings
 fn line_head(page: &mut Output, setting: bool, line: u64) {
     if setting {
-        write!(page, "bad settings: line {line}");
+        page.field(b"bad settings: line ", line);
     } else {
-        write!(page, "error {line}");
+        page.field(b"error ", line);
     }
 }
 
@@ -46,7 +49,8 @@ fn line_head(page: &mut Output, setting: bool, line: u64) {
 fn word_head(page: &mut Output, setting: bool, line: u64, word: u64) {
     line_head(page, setting, line);
     page.text(if setting { b", " } else { b": " });
-    write!(page, "word {word}: ");
+    page.field(b"word ", word);
+    page.text(b": ");
 }
 
 // Why a line, an event or a setting, cannot be read. A port in front is a word more.
@@ -76,34 +80,61 @@ pub fn missing(page: &mut Output, line: u64, name: Name) {
 
 // A line of the settings for another port than the one due.
 pub fn port_due(page: &mut Output, line: u64, port: u8) {
-    writeln!(
-        page,
-        "bad settings: line {line}, word 1: port {port} is due"
-    );
+    line_head(page, true, line);
+    page.field(b", word 1: port ", u64::from(port));
+    page.text(b" is due\n");
 }
 
 // The settings of a port that had them before.
 pub fn another_due(page: &mut Output, line: u64) {
-    writeln!(
-        page,
-        "bad settings: line {line}, word 1: another port is due"
-    );
+    line_head(page, true, line);
+    page.text(b", word 1: another port is due\n");
 }
 
 // Why a setting is invalid.
 fn reason(page: &mut Output, f: Fault) {
     match f {
-        Fault::Length(n, due) => writeln!(page, "{n} octets, not {due}"),
-        Fault::Ragged(n) => writeln!(page, "{n} octets, not a multiple of 6"),
-        Fault::Group(p, g) => writeln!(page, "priority {p} has group {g}"),
-        Fault::Sum(n) => writeln!(page, "the percentages sum to {n}"),
-        Fault::Classes(n) => writeln!(page, "{n} classes"),
-        Fault::Ones(n, m) => writeln!(page, "{n} ones in the mask, {m} classes"),
-        Fault::Entries(n) => writeln!(page, "{n} entries"),
-        Fault::Foreign(i) => writeln!(page, "entry {i} is foreign"),
-        Fault::Again(i, j) => writeln!(page, "entries {i} and {j} have the same selector and id"),
-        Fault::Selector(i, x) => writeln!(page, "entry {i} has selector {x}"),
+        Fault::Length(n, due) => {
+            page.number(n as u64);
+            page.field(b" octets, not ", due as u64);
+        }
+        Fault::Ragged(n) => {
+            page.number(n as u64);
+            page.text(b" octets, not a multiple of 6");
+        }
+        Fault::Group(p, g) => {
+            page.field(b"priority ", p as u64);
+            page.field(b" has group ", u64::from(g));
+        }
+        Fault::Sum(n) => page.field(b"the percentages sum to ", n as u64),
+        Fault::Classes(n) => {
+            page.number(u64::from(n));
+            page.text(b" classes");
+        }
+        Fault::Ones(n, m) => {
+            page.number(u64::from(n));
+            page.field(b" ones in the mask, ", u64::from(m));
+            page.text(b" classes");
+        }
+        Fault::Entries(n) => {
+            page.number(n as u64);
+            page.text(b" entries");
+        }
+        Fault::Foreign(i) => {
+            page.field(b"entry ", i as u64);
+            page.text(b" is foreign");
+        }
+        Fault::Again(i, j) => {
+            page.field(b"entries ", i as u64);
+            page.field(b" and ", j as u64);
+            page.text(b" have the same selector and id");
+        }
+        Fault::Selector(i, x) => {
+            page.field(b"entry ", i as u64);
+            page.field(b" has selector ", u64::from(x));
+        }
     }
+    page.text(b"\n");
 }
 
 // `refused 9 invalid-setting: WHY`
@@ -114,6 +145,7 @@ pub fn invalid(page: &mut Output, f: Fault) {
 
 // `bad settings: line N: refused 9 invalid-setting: WHY`
 pub fn invalid_setting(page: &mut Output, line: u64, f: Fault) {
-    write!(page, "bad settings: line {line}: ");
+    line_head(page, true, line);
+    page.text(b": ");
     invalid(page, f);
 }

@@ -6,7 +6,8 @@ const LINE_FEED: u8 = 10;
 // `N `, where the line gave its port.
 pub fn first(page: &mut Output, port: Option<u8>) {
     if let Some(n) = port {
-        write!(page, "{n} ");
+        page.number(u64::from(n));
+        page.text(b" ");
     }
 }
 

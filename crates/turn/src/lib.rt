@@ -32,7 +32,7 @@ fn kept(x: &State, syncd: bool) -> Turn
     ensures { result ≡ kept_at x.now syncd }
 {
     Turn {
-        decision: Decision::from(x.outcome),
+        decision: feature::decision_of(&x.outcome),
         syncd,
         sequence: x.sequence,
     }
@@ -146,9 +146,8 @@ pub fn peer_parameters_after(
 ) -> Parameters
     ensures { result ≡ peer_parameters_after course f value.now held x.now }
 {
-    let o = &x.outcome;
     if keeps(x, course) {
-        return feature::parameters_held(o.peer);
+        return feature::held_parameters(&x.outcome.peer);
     }
     if held {
         return config::store(f, octets::from(value, 4));

@@ -1,5 +1,5 @@
 -- `digit` meets its contract. Assumes nothing.
-use Rattle.printing.proofs.Puts.{glyph_digit, glyph_letter}
+use Rattle.printing.proofs.PutLaws.{glyph_digit, glyph_letter}
 use Rattle.printing.proofs.digit.Goals as goal
 
 pub returns-then-d-lt10 : goal.returns-then-d-lt10
