@@ -204,7 +204,6 @@ pub fn accept(p: Port, s: &[u8], c: Contents) -> Event
 }
 
 // The same of a port that is lent: by value it would be copied once more.
-#[inline(always)]
 pub fn accept_at(p: &Port, s: &[u8], c: Contents) -> Event
     requires { Admits p.now s.now (Ok c) }
     ensures { result ≡ handled p.now s.now }
